@@ -1,0 +1,161 @@
+ghost use Rattle.std.specs.Prelude.{◌≡◌, ◌≤◌, [], ◌∷◌, ◌++◌, length, slice_get, take, drop, map, ◌-◌, OnOk, OnErr, Some, nat_eq, refl};
+ghost use Rattle.std.specs.Option.{option_copied};
+ghost use Rattle.std.specs.Cmp.{partial_equiv_from_equiv};
+ghost use Rattle.std.specs.Cmp.Lexicographic.{slice_cmp, pointwise, nat_list_cmp_total, nat_list_eq_equiv, texts_ties, texts_po};
+ghost use Rattle.std.specs.Ordering.{nat_cmp};
+
+use std::alloc::{AllocError, AllocFailed, Global};
+use std::cmp::Ordering;
+use std::marker::Model;
+
+/// Memory ran out.
+#[derive(Clone, Copy, Debug, PartialEq, Eq)]
+pub struct NoMemory;
+
+impl From<AllocError> for NoMemory {
+    fn from(_e: AllocError) -> NoMemory {
+        NoMemory
+    }
+}
+
+impl<T: Drop> From<AllocFailed<T>> for NoMemory {
+    fn from(_e: AllocFailed<T>) -> NoMemory {
+        NoMemory
+    }
+}
+
+/// Bytes that contracts see as a list.
+#[derive(Debug, Drop)]
+pub struct ByteList {
+    items: Vec<u8>,
+}
+
+pub type KeyBytes = ByteList;
+
+pub type ValueBytes = ByteList;
+
+impl Model for ByteList {
+    ghost use Rattle.std.specs.Prelude.{List, ℕ};
+
+    ghost Value = { List ℕ };
+
+    ghost view = { λ b. b.items.items };
+}
+
+impl ByteList {
+    pub fn new(alloc: Global) -> ByteList
+        ensures { result ≡ [] }
+    {
+        ByteList {
+            items: Vec::new(alloc),
+        }
+    }
+
+    pub fn from_vec(items: Vec<u8>) -> ByteList
+        ensures { result ≡ items.items }
+    {
+        ByteList { items }
+    }
+
+    pub fn into_vec(self) -> Vec<u8>
+        ensures { result.items ≡ self }
+    {
+        let ByteList { items } = self;
+        items
+    }
+
+    pub fn push(&mut self, item: u8) -> Result<(), NoMemory>
+        ensures ok { OnOk result (self.new ≡ self.old ++ item ∷ []) }
+        ensures err { OnErr result (self.new ≡ self.old) }
+    {
+        self.items.push(item)?;
+        Ok(())
+    }
+
+    pub fn extend(&mut self, more: &[u8]) -> Result<(), NoMemory>
+        ensures ok { OnOk result (self.new ≡ self.old ++ more.now) }
+        ensures err { OnErr result (self.new ≡ self.old) }
+    {
+        self.items.extend_from_slice(more)?;
+        Ok(())
+    }
+
+    pub fn truncate(&mut self, len: usize)
+        ensures { self.new ≡ take len self.old }
+    {
+        self.items.truncate(len);
+    }
+
+    /// Turns each byte from a place on into its complement.
+    pub fn complement_from(&mut self, at: usize)
+        requires { at ≤ length self.old }
+        ensures { self.new ≡ take at self.old ++ map (λ b. 255 - b) (drop at self.old) }
+    {
+        let (_, tail) = self.items.as_mut_slice().split_at_mut(at);
+        complement(tail);
+    }
+
+    pub fn len(&self) -> usize
+        ensures { result ≡ length self.now }
+    {
+        self.items.len()
+    }
+
+    pub fn get(&self, i: usize) -> Option<&u8>
+        ensures { option_copied result ≡ slice_get self.now i }
+    {
+        self.items.get(i)
+    }
+
+    pub fn as_slice(&self) -> &[u8]
+        ensures { result.now ≡ self.now }
+    {
+        self.items.as_slice()
+    }
+}
+
+impl PartialEq for ByteList {
+    ghost eq = { pointwise nat_eq };
+
+    ghost laws = { partial_equiv_from_equiv nat_list_eq_equiv };
+
+    fn eq(&self, other: &ByteList) -> bool {
+        self.items == other.items
+    }
+}
+
+impl Eq for ByteList {
+    ghost laws = { nat_list_eq_equiv };
+}
+
+impl PartialOrd for ByteList {
+    ghost partial_cmp = { λ xs ys. Some (slice_cmp nat_cmp xs ys) };
+
+    ghost laws = { texts_po };
+
+    fn partial_cmp(&self, other: &ByteList) -> Option<Ordering> {
+        Some(self.cmp(other))
+    }
+}
+
+impl Ord for ByteList {
+    ghost cmp = { slice_cmp nat_cmp };
+
+    ghost total = { nat_list_cmp_total };
+
+    ghost matches_partial_cmp = { λ xs ys. refl };
+
+    ghost matches_eq = { texts_ties };
+
+    fn cmp(&self, other: &ByteList) -> Ordering {
+        self.items.cmp(&other.items)
+    }
+}
+
+fn complement(bytes: &mut [u8])
+    ensures { bytes.new ≡ map (λ b. 255 - b) bytes.old }
+{
+    for byte in bytes.iter_mut() {
+        *byte = 255 - *byte;
+    }
+}

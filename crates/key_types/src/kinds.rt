@@ -1,0 +1,131 @@
+ghost use Rattle.std.specs.Prelude.{◌≡◌, ◌↔◌, IsTrue, pos, negsuc};
+ghost use Rattle.std.specs.Str.{is_utf8};
+ghost use Rattle.key_types.specs.Kinds.{kind_of, kinds_of, value_of, values_of, Fits, EachFits, AreBytes, within, order_by, orders_by};
+
+use crate::bytes::ByteList;
+use std::cmp::Ordering;
+
+/// The type of a component of a key.
+#[cycle(col_type)]
+#[derive(Drop)]
+pub enum ColType {
+    TinyInt,
+    SmallInt,
+    Int,
+    BigInt,
+    Text,
+    Blob,
+    Boolean,
+    Tuple(TypeList),
+    Reversed(Box<ColType>),
+}
+
+#[cycle(col_type)]
+#[derive(Drop)]
+pub enum TypeList {
+    End,
+    More(Box<ColType>, Box<TypeList>),
+}
+
+/// A component of a key.
+#[cycle(value)]
+#[derive(Drop)]
+pub enum Value {
+    Number(i64),
+    Bytes(ByteList),
+    Truth(bool),
+    Tuple(ValueList),
+}
+
+#[cycle(value)]
+#[derive(Drop)]
+pub enum ValueList {
+    End,
+    More(Box<Value>, Box<ValueList>),
+}
+
+/// Whether the value is one of the type.
+#[cycle(fits)]
+pub fn fits(kind: &ColType, value: &Value) -> bool
+    ensures { IsTrue result ↔ Fits (kind_of kind.now) (value_of value.now) }
+{
+    match (kind, value) {
+        (ColType::TinyInt, Value::Number(n)) => *n >= -128 && *n < 128,
+        (ColType::SmallInt, Value::Number(n)) => *n >= -32768 && *n < 32768,
+        (ColType::Int, Value::Number(n)) => *n >= -2147483648 && *n < 2147483648,
+        (ColType::BigInt, Value::Number(n)) => is_long(*n),
+        (ColType::Text, Value::Bytes(bytes)) => are_bytes(bytes.as_slice())
+            && is_text(bytes.as_slice()),
+        (ColType::Blob, Value::Bytes(bytes)) => are_bytes(bytes.as_slice()),
+        (ColType::Boolean, Value::Truth(_)) => true,
+        (ColType::Tuple(kinds), Value::Tuple(values)) => all_fit(kinds, values),
+        (ColType::Reversed(inner), _) => fits(inner, value),
+        _ => false,
+    }
+}
+
+#[cycle(fits)]
+fn all_fit(kinds: &TypeList, values: &ValueList) -> bool
+    ensures { IsTrue result ↔ EachFits (kinds_of kinds.now) (values_of values.now) }
+{
+    match (kinds, values) {
+        (TypeList::End, ValueList::End) => true,
+        (TypeList::More(kind, kinds), ValueList::More(value, values)) => {
+            fits(kind, value) && all_fit(kinds, values)
+        }
+        _ => false,
+    }
+}
+
+/// The order of two values of the type.
+#[cycle(compare)]
+pub fn compare(kind: &ColType, a: &Value, b: &Value) -> Ordering
+    ensures { result ≡ order_by (kind_of kind.now) (value_of a.now) (value_of b.now) }
+{
+    match (kind, a, b) {
+        (ColType::Reversed(inner), _, _) => compare(inner, a, b).reverse(),
+        (ColType::Tuple(kinds), Value::Tuple(xs), Value::Tuple(ys)) => compare_all(kinds, xs, ys),
+        (_, Value::Number(x), Value::Number(y)) => x.cmp(y),
+        (_, Value::Bytes(x), Value::Bytes(y)) => x.cmp(y),
+        (_, Value::Truth(x), Value::Truth(y)) => x.cmp(y),
+        _ => Ordering::Equal,
+    }
+}
+
+#[cycle(compare)]
+fn compare_all(kinds: &TypeList, a: &ValueList, b: &ValueList) -> Ordering
+    ensures { result ≡ orders_by (kinds_of kinds.now) (values_of a.now) (values_of b.now) }
+{
+    match (kinds, a, b) {
+        (TypeList::More(kind, kinds), ValueList::More(x, xs), ValueList::More(y, ys)) => {
+            compare(kind, x, y).then(compare_all(kinds, xs, ys))
+        }
+        _ => Ordering::Equal,
+    }
+}
+
+/// Whether the bytes are UTF-8.
+pub fn is_text(bytes: &[u8]) -> bool
+    ensures { result ≡ is_utf8 bytes.now }
+{
+    match str::from_utf8(bytes) {
+        Ok(_) => true,
+        Err(_) => false,
+    }
+}
+
+/// Always: a slice holds bytes.
+fn are_bytes(_bytes: &[u8]) -> bool
+    ensures result { IsTrue result }
+    ensures bytes { AreBytes _bytes.now }
+{
+    true
+}
+
+/// Always: the number has 64 bits.
+fn is_long(_n: i64) -> bool
+    ensures result { IsTrue result }
+    ensures within { IsTrue (within (negsuc 9223372036854775807) (pos 9223372036854775808) _n) }
+{
+    true
+}

@@ -1,0 +1,16 @@
+/// What is called before each put and each read of a batch.
+pub trait Gate: Sync {
+    fn before_put(&self, shard: u32, line: u32);
+
+    fn before_read(&self, reader: u32, line: u32);
+}
+
+/// A gate that does nothing.
+#[derive(Clone, Copy, Debug)]
+pub struct OpenGate;
+
+impl Gate for OpenGate {
+    fn before_put(&self, _shard: u32, _line: u32) {}
+
+    fn before_read(&self, _reader: u32, _line: u32) {}
+}
