@@ -3,8 +3,10 @@
 
 mod bytes;
 mod kinds;
+mod list;
 mod schema;
 
 pub use bytes::{ByteList, KeyBytes, NoMemory, ValueBytes};
 pub use kinds::{ColType, TypeList, Value, ValueList, compare, fits, is_text};
+pub use list::ListOf;
 pub use schema::{Schema, ValueType};
