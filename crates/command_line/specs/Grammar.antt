@@ -1,0 +1,24 @@
+-- The command line that the tool declares to `clap`.
+use Rattle.std.specs.Prelude.{true, [], ◌∷◌, codes}
+use Rattle.clap.specs.Simple.{App, Shape, new_shape}
+use Rattle.command_line.specs.Forms.{with_commands, with_required}
+
+-- `list --schema S`
+abbrev pub list : Shape
+list = with_required (new_shape (codes "list")) (codes "schema" ∷ [])
+
+-- the command line before its commands: one of them has to be named, and there is no help and no version
+abbrev pub bare : App
+bare = record {
+  top = record (new_shape (codes "sigvhal")) {
+    no_binary_name = true;
+    disable_help_flag = true;
+    disable_help_subcommand = true;
+    subcommand_required = true;
+  };
+  subs = [];
+}
+
+-- the command line: its commands
+abbrev pub tool : App
+tool = with_commands bare (list ∷ [])

@@ -1,0 +1,5 @@
+pub mod Grammar
+pub mod Forms
+pub mod Said
+pub mod Reading
+pub mod Laws

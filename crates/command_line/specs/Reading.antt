@@ -1,0 +1,62 @@
+-- Which words are taken, and what they say.
+use Rattle.std.specs.Prelude.{Bool, true, false, List, [], ◌∷◌, codes}
+use Rattle.std.specs.Prelude.{Option, Some, None, Result, Ok, Err, if◌then◌else◌}
+use Rattle.std.specs.List.{list_any}
+use Rattle.std.specs.Str.{bytes_eq}
+use Rattle.clap.specs.Walk.{Row, Text, first_of}
+use Rattle.clap.specs.Simple.{subcommand_of}
+use Rattle.clap.specs.Kinds.{Kinds}
+use Rattle.clap.specs.Faults.{fault_of}
+use Rattle.command_line.specs.Grammar.{tool}
+use Rattle.command_line.specs.Said.{Said, list}
+use Rattle.command_line.specs.declared.command.WordsError.{WordsError}
+use Rattle.command_line.specs.declared.command.WordsError.TheVariants.{Usage}
+
+-- ---- which words are taken
+
+-- words that ask for help or a version, and the end of options: refused wherever they stand
+abbrev pub refused_words : List Text
+refused_words = codes "help" ∷ codes "--help" ∷ codes "-h" ∷ codes "--version" ∷ codes "-V" ∷ codes "--" ∷ []
+
+-- the word is one of these
+unfoldable pub is_refused : Text → Bool
+is_refused word = list_any (λ refused. bytes_eq word refused) refused_words
+
+-- no fault was found
+abbrev pub is_faultless : Kinds → Bool
+is_faultless [] = true
+is_faultless (kind ∷ kinds) = false
+
+-- the command that the words name and the values that stand for it, where the declared command line, as `clap`
+-- says what it takes, finds no fault with them
+unfoldable pub found_in : List Text → Result (Option (Text × List Row)) WordsError
+found_in words = if is_faultless (fault_of tool words) then Ok (subcommand_of tool words) else Err Usage
+
+-- ---- what they say
+
+-- the text of an argument that has to be there
+abbrev pub needed_text : Option Text → Result Text WordsError
+needed_text None = Err Usage
+needed_text (Some text) = Ok text
+
+-- what is said with a value, where the value isn't refused
+abbrev pub reads : {X : Type 0} → Result X WordsError → (X → Result Said WordsError) → Result Said WordsError
+reads (Ok x) next = next x
+reads (Err e) next = Err Usage
+
+-- `list` with its values
+abbrev pub list_in : List Row → Result Said WordsError
+list_in rows = reads (needed_text (first_of (codes "schema") rows)) (λ schema. Ok (list schema))
+
+-- the command of this name, with the values that were found for it
+abbrev pub said_by : Text → List Row → Result Said WordsError
+said_by name rows = if bytes_eq name (codes "list") then list_in rows else Err Usage
+
+-- what the words that were found say
+abbrev pub said_in : Result (Option (Text × List Row)) WordsError → Result Said WordsError
+said_in (Ok (Some found)) = said_by found.0 found.1
+said_in _ = Err Usage
+
+-- what the words say, or Usage
+abbrev pub command_of : List Text → Result Said WordsError
+command_of words = if list_any is_refused words then Err Usage else said_in (found_in words)

@@ -1,0 +1,36 @@
+//! What the words ask for.
+use std::alloc::AllocError;
+
+/// The values of `list`.
+#[derive(Debug, Drop)]
+pub struct ListArguments {
+    /// The schema, as its text.
+    pub schema: String,
+}
+
+/// A command of the tool, with its values.
+#[derive(Debug, Drop)]
+pub enum Command {
+    /// `list --schema S`
+    List(ListArguments),
+}
+
+/// Why no command was read.
+#[derive(Clone, Copy, Debug, PartialEq, Eq)]
+pub enum WordsError {
+    /// The words are not those of a command.
+    Usage,
+    /// Memory ran out.
+    NoMemory,
+}
+
+impl From<AllocError> for WordsError {
+    ghost use Rattle.std.specs.Prelude.{◌≡◌};
+    ghost use Rattle.command_line.specs.declared.command.WordsError.TheVariants.{NoMemory};
+
+    ghost from_gives = { λ _ e. e ≡ NoMemory };
+
+    fn from(_e: AllocError) -> WordsError {
+        WordsError::NoMemory
+    }
+}

@@ -1,0 +1,15 @@
+//! The words of the command line, read into a command.
+#![tactic(auto)]
+
+mod command;
+mod declared;
+mod getters;
+mod laws;
+mod reading;
+
+pub use command::{Command, ListArguments, WordsError};
+pub use laws::law_list;
+pub use reading::read_words;
+
+#[cfg(test)]
+mod tests;
