@@ -1,5 +1,5 @@
 -- The complements of the bytes, as far as a loop has come.
-use Rattle.std.proofs.Common.{◌≡◌, ℕ, zero, suc, ◌+◌, ◌-◌, ◌<◌, List, [], ◌∷◌, ◌++◌, length, map, take, drop, get_or, refl, ap, arith, add-one, subst, sym, ◌∙◌}
+use Rattle.std.proofs.Common.{◌≡◌, ℕ, zero, suc, ◌+◌, ◌-◌, ◌<◌, List, [], ◌∷◌, ◌++◌, length, map, take, drop, get_or, refl, ap, arith, add-one, sym, ◌∙◌}
 use Rattle.std.proofs.Math.ListN.{set}
 
 abbrev pub turned : ℕ → List ℕ → List ℕ

@@ -1,5 +1,5 @@
 -- Types and values of key components, without pointers, and the order of the values.
-use Rattle.std.specs.Prelude.{ℕ, List, [], ◌∷◌, ◌<◌, Bool, true, false, ◌&&◌, ℤ, pos, negsuc, int_le, int_lt, IsTrue}
+use Rattle.std.specs.Prelude.{ℕ, List, [], ◌∷◌, ◌<◌, Bool, true, false, ◌&&◌, ℤ, pos, negsuc, int_le, int_lt, nat_lt, IsTrue}
 use Rattle.std.specs.Str.{is_utf8}
 use Rattle.std.specs.declared.cmp.Ordering.{Ordering}
 use Rattle.std.specs.declared.cmp.Ordering.TheVariants.{Equal}
@@ -89,6 +89,29 @@ abbrev mutual
   EachFits end none = Unit {0}
   EachFits (more t ts) (and v vs) = Fits t v × EachFits ts vs
   EachFits _ _ = ⊥
+
+abbrev pub all_bytes : List ℕ → Bool
+all_bytes [] = true
+all_bytes (b ∷ bs) = nat_lt b 256 && all_bytes bs
+
+-- the same as a test that computes: it is true exactly on values of the type
+abbrev mutual
+  pub fits_by : Kind → Val → Bool
+  fits_by tiny (number n) = within (negsuc 127) (pos 128) n
+  fits_by small (number n) = within (negsuc 32767) (pos 32768) n
+  fits_by int (number n) = within (negsuc 2147483647) (pos 2147483648) n
+  fits_by big (number n) = within (negsuc 9223372036854775807) (pos 9223372036854775808) n
+  fits_by text (bytes b) = is_utf8 b && all_bytes b
+  fits_by blob (bytes b) = all_bytes b
+  fits_by boolean (truth b) = true
+  fits_by (tuple ts) (values vs) = all_fit_by ts vs
+  fits_by (reversed t) v = fits_by t v
+  fits_by _ _ = false
+
+  pub all_fit_by : Kinds → Vals → Bool
+  all_fit_by end none = true
+  all_fit_by (more t ts) (and v vs) = fits_by t v && all_fit_by ts vs
+  all_fit_by _ _ = false
 
 -- numbers by size, bytes and truths as they stand, tuples component by component, a reversed type the other way round
 abbrev mutual

@@ -1,6 +1,6 @@
 ghost use Rattle.std.specs.Prelude.{◌≡◌, ◌↔◌, IsTrue, pos, negsuc};
 ghost use Rattle.std.specs.Str.{is_utf8};
-ghost use Rattle.key_types.specs.Kinds.{kind_of, kinds_of, value_of, values_of, Fits, EachFits, AreBytes, within, order_by, orders_by};
+ghost use Rattle.key_types.specs.Kinds.{kind_of, kinds_of, value_of, values_of, Fits, EachFits, fits_by, all_fit_by, AreBytes, all_bytes, within, order_by, orders_by};
 
 use crate::bytes::ByteList;
 use std::cmp::Ordering;
@@ -47,7 +47,8 @@ pub enum ValueList {
 /// Whether the value is one of the type.
 #[cycle(fits)]
 pub fn fits(kind: &ColType, value: &Value) -> bool
-    ensures { IsTrue result ↔ Fits (kind_of kind.now) (value_of value.now) }
+    ensures fits { IsTrue result ↔ Fits (kind_of kind.now) (value_of value.now) }
+    ensures by { result ≡ fits_by (kind_of kind.now) (value_of value.now) }
 {
     match (kind, value) {
         (ColType::TinyInt, Value::Number(n)) => *n >= -128 && *n < 128,
@@ -66,7 +67,8 @@ pub fn fits(kind: &ColType, value: &Value) -> bool
 
 #[cycle(fits)]
 fn all_fit(kinds: &TypeList, values: &ValueList) -> bool
-    ensures { IsTrue result ↔ EachFits (kinds_of kinds.now) (values_of values.now) }
+    ensures fits { IsTrue result ↔ EachFits (kinds_of kinds.now) (values_of values.now) }
+    ensures by { result ≡ all_fit_by (kinds_of kinds.now) (values_of values.now) }
 {
     match (kinds, values) {
         (TypeList::End, ValueList::End) => true,
@@ -118,6 +120,7 @@ pub fn is_text(bytes: &[u8]) -> bool
 fn are_bytes(_bytes: &[u8]) -> bool
     ensures result { IsTrue result }
     ensures bytes { AreBytes _bytes.now }
+    ensures by { IsTrue (all_bytes _bytes.now) }
 {
     true
 }

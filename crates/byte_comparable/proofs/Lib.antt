@@ -1,0 +1,11 @@
+pub mod Leads
+pub mod Compare
+pub mod Views
+pub mod Zeros
+pub mod Exactly
+pub mod Turn
+pub mod Numbers
+pub mod Long
+pub mod Compose
+pub mod Kept
+pub mod Signs

@@ -1,0 +1,4 @@
+pub mod Encoding
+pub mod Bytewise
+pub mod Order
+pub mod Strings

@@ -1,0 +1,21 @@
+ghost use Rattle.byte_comparable.specs.Order.{KeepsOrder, AreWeaklyPrefixFree, ArePrefixFree, IsRange};
+
+/// The order of the strings is the order of the values.
+pub fn law_order()
+    ensures { KeepsOrder }
+{}
+
+/// Encodings are weakly prefix-free.
+pub fn law_weakly_prefix_free()
+    ensures { AreWeaklyPrefixFree }
+{}
+
+/// Whole strings are prefix-free.
+pub fn law_prefix_free()
+    ensures { ArePrefixFree }
+{}
+
+/// A row is in a range exactly where its strings lie between the bound strings.
+pub fn law_range()
+    ensures { IsRange }
+{}

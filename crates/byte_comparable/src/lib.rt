@@ -1,0 +1,14 @@
+//! Key components as bytes, whose unsigned order is the order of the values.
+//!
+//! The encoding is made after ByteComparable.md of Apache Cassandra.
+#![tactic(auto)]
+
+mod encoding;
+mod laws;
+mod strings;
+#[cfg(test)]
+mod tests;
+
+pub use encoding::encode_into;
+pub use laws::{law_order, law_prefix_free, law_range, law_weakly_prefix_free};
+pub use strings::{KeyError, Side, bound_string, clustering_string, partition_string};
