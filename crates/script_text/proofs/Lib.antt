@@ -1,0 +1,6 @@
+pub mod Breaks
+pub mod Capped
+pub mod Listed
+pub mod Quoted
+pub mod Spelled
+pub mod Found

@@ -1,0 +1,5 @@
+pub mod Lines
+pub mod Tokens
+pub mod PutLine
+pub mod Grammar
+pub mod Script

@@ -1,0 +1,12 @@
+//! Scripts: the bytes of a script read into its puts, or the first line that isn't accepted.
+#![tactic(auto)]
+
+mod laws;
+mod lines;
+mod reader;
+mod script;
+mod tokens;
+
+pub use laws::law_put_lines;
+pub use reader::read_script;
+pub use script::{Batch, BatchList, Get, GetList, LineCause, Put, PutList, Script, ScriptError};
