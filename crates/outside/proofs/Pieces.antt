@@ -3,10 +3,10 @@ use Rattle.std.proofs.Common.{◌≡◌, ℕ, ◌+◌, ◌≤◌, Bool, true, fa
 use Rattle.std.proofs.lemmas.List.{take-append-drop, drop-drop, take_at, append-nil, length-take-le}
 
 -- what was written is what was kept of the piece
-pub kept : (r : Bool) (xs ys piece : List ℕ) (k : ℕ) → k ≤ length piece → ys ≡ (if r then xs ++ take k piece else xs)
+pub kept : (r : Bool) (xs ys piece front : List ℕ) (k : ℕ) → k ≤ length piece → front ≡ take k piece → ys ≡ (if r then xs ++ front else xs)
     → (x : ℕ) × (x ≤ length piece) × (ys ≡ xs ++ take x piece)
-kept true xs ys piece k h e = (k, h, e)
-kept false xs ys piece k h e = (0, omega arith, e ∙ sym (append-nil xs))
+kept true xs ys piece front k h f e = (k, h, e ∙ ap (λ p. xs ++ p) f)
+kept false xs ys piece front k h f e = (0, omega arith, e ∙ sym (append-nil xs))
 
 -- the front that was copied, and the rest behind it
 pub pulled : (bytes got into : List ℕ) (at count : ℕ) → got ≡ take count (drop at bytes) → count ≤ length (drop at bytes)

@@ -1,5 +1,6 @@
 pub mod Told
 pub mod Causes
 pub mod Streams
-pub mod Memory
+pub mod Script
 pub mod Files
+pub mod Memory

@@ -2,15 +2,25 @@
 #![tactic(auto)]
 
 mod adapters;
+mod file_bytes;
+mod folder_store;
 mod gate;
-mod memory;
+mod mem_sink;
+mod mem_source;
+mod mem_store;
+mod script;
+mod shelf;
 mod store;
 mod stream;
 
 pub use adapters::{ReaderSource, WriterSink};
+pub use folder_store::FolderStore;
 pub use gate::{Gate, OpenGate};
-pub use memory::{Fail, MemSink, MemSource};
-pub use store::{FileId, NoStore, Part, Store};
+pub use mem_sink::MemSink;
+pub use mem_source::MemSource;
+pub use mem_store::MemStore;
+pub use script::Fail;
+pub use store::{FileId, Part, Store};
 pub use stream::{Failed, Sink, Source};
 
 #[cfg(test)]

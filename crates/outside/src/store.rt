@@ -1,12 +1,13 @@
 ghost use Rattle.std.specs.Prelude.{◌≡◌, ◌<◌, ◌≤◌, ◌^◌, ◌+◌, ◌-◌, length, List, ℕ, Option, IfOk, IsNone, ◌↔◌, min};
 ghost use Rattle.outside.specs.Causes.{HasCause};
-ghost use Rattle.outside.specs.Files.{file_cmp, Appends, Reads, Sizes};
+ghost use Rattle.outside.specs.Files.{file_cmp, place_of, Appends, Reads, Sizes};
 ghost use Rattle.std.specs.FinMap as map;
 
 use crate::stream::Failed;
+use std::cmp::Ordering;
 
 /// A part of a table on disk.
-#[derive(Clone, Copy, Debug, PartialEq, Eq, PartialOrd, Ord)]
+#[derive(Clone, Copy, Debug, PartialEq, Eq)]
 pub enum Part {
     Data,
     Partitions,
@@ -14,11 +15,76 @@ pub enum Part {
     Schema,
 }
 
-/// A file of a generation.
-#[derive(Clone, Copy, Debug, PartialEq, Eq, PartialOrd, Ord)]
+/// The place of a part among the parts.
+fn place_of(part: Part) -> u8
+    ensures { result ≡ place_of part }
+{
+    match part {
+        Part::Data => 0,
+        Part::Partitions => 1,
+        Part::Rows => 2,
+        Part::Schema => 3,
+    }
+}
+
+/// A file of a generation. Files go by their generation, and then by their part.
+#[derive(Clone, Copy, Debug)]
 pub struct FileId {
     pub generation: u32,
     pub part: Part,
+}
+
+impl PartialEq for FileId {
+    ghost use Rattle.std.specs.Cmp.{eq_by_cmp_equiv, partial_equiv_from_equiv};
+    ghost use Rattle.std.specs.Ordering.{eq_by_cmp};
+    ghost use Rattle.outside.specs.Files.{file_cmp, file_cmp_total};
+
+    ghost eq = { eq_by_cmp file_cmp };
+
+    ghost laws = { partial_equiv_from_equiv (eq_by_cmp_equiv file_cmp_total) };
+
+    fn eq(&self, other: &FileId) -> bool {
+        self.cmp(other) == Ordering::Equal
+    }
+}
+
+impl Eq for FileId {
+    ghost use Rattle.std.specs.Cmp.{eq_by_cmp_equiv};
+    ghost use Rattle.outside.specs.Files.{file_cmp_total};
+
+    ghost laws = { eq_by_cmp_equiv file_cmp_total };
+}
+
+impl PartialOrd for FileId {
+    ghost use Rattle.std.specs.Cmp.{partial_order_from_total};
+    ghost use Rattle.std.specs.Ordering.{as_partial_cmp};
+    ghost use Rattle.outside.specs.Files.{file_cmp, file_cmp_total};
+
+    ghost partial_cmp = { as_partial_cmp file_cmp };
+
+    ghost laws = { partial_order_from_total file_cmp_total };
+
+    fn partial_cmp(&self, other: &FileId) -> Option<Ordering> {
+        Some(self.cmp(other))
+    }
+}
+
+impl Ord for FileId {
+    ghost use Rattle.std.specs.Prelude.{refl};
+    ghost use Rattle.outside.specs.Files.{file_cmp, file_cmp_total};
+
+    ghost cmp = { file_cmp };
+
+    ghost total = { file_cmp_total };
+
+    ghost matches_partial_cmp = { λ a b. refl };
+
+    ghost matches_eq = { λ a b. refl };
+
+    fn cmp(&self, other: &FileId) -> Ordering {
+        let generations = self.generation.cmp(&other.generation);
+        generations.then(place_of(self.part).cmp(&place_of(other.part)))
+    }
 }
 
 /// Where files stand.
@@ -54,44 +120,4 @@ pub trait Store {
         ensures files { files self.new ≡ files self.old }
         ensures reads { reads self.new ≡ reads self.old }
         ensures cause { HasCause (faults self.old) (faults self.new) result };
-}
-
-/// A store without files, whose appends fail.
-#[derive(Debug, Drop)]
-pub struct NoStore {
-    faults: u64,
-    reads: u64,
-}
-
-impl NoStore {
-    pub fn new() -> NoStore {
-        NoStore {
-            faults: 0,
-            reads: 0,
-        }
-    }
-}
-
-impl Store for NoStore {
-    ghost use Rattle.std.specs.Prelude.{None};
-
-    ghost files = { λ _. None };
-
-    ghost faults = { λ s. s.faults };
-
-    ghost reads = { λ s. s.reads };
-
-    fn append(&mut self, _file: FileId, _piece: &[u8]) -> Result<(), Failed> {
-        self.faults = self.faults.saturating_add(1);
-        Err(Failed)
-    }
-
-    fn read(&mut self, _file: FileId, _at: u64, _into: &mut [u8]) -> Result<usize, Failed> {
-        self.reads = self.reads.saturating_add(1);
-        Ok(0)
-    }
-
-    fn size(&mut self, _file: FileId) -> Result<Option<u64>, Failed> {
-        Ok(None)
-    }
 }

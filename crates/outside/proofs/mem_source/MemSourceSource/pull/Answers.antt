@@ -1,7 +1,7 @@
 use Rattle.std.proofs.Common.{arith, ◌≡◌, ◌<◌, ◌∙◌, ap, length, drop, take}
 use Rattle.std.proofs.lemmas.List.{nil_from_length}
 use Rattle.outside.proofs.Pieces.{pulled}
-use Rattle.outside.proofs.memory.MemSourceSource.pull.Goals as goal
+use Rattle.outside.proofs.mem_source.MemSourceSource.pull.Goals as goal
 
 pub returns-clause-bytes : goal.returns-clause-bytes
 returns-clause-bytes c =
