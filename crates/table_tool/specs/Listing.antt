@@ -1,0 +1,42 @@
+-- The whole outcome of `list`. This project's own.
+use Rattle.std.specs.Prelude.{◌≡◌, ℕ, List, Result, Ok, Err}
+use Rattle.script_text.specs.declared.script.Script.{Script}
+use Rattle.script_text.specs.declared.script.ScriptError.{ScriptError}
+use Rattle.script_text.specs.declared.script.ScriptError.TheVariants as script_error
+use Rattle.script_text.specs.Script.{script_of, puts_of}
+use Rattle.table_tool.specs.declared.status.Status.{Status}
+use Rattle.table_tool.specs.declared.status.Status.TheVariants as status
+use Rattle.table_tool.specs.Rows.{rows_of}
+use Rattle.table_tool.specs.Printed.{rows_text}
+
+-- the text of a script's rows, or the status of its refusal
+abbrev pub listing_of : Result Script ScriptError → Result (List ℕ) Status
+listing_of (Ok script) = Ok (rows_text (rows_of (puts_of script.batches)))
+listing_of (Err (script_error.BadLine line cause)) = Err (status.BadLine line cause)
+listing_of (Err script_error.TooLarge) = Err status.TooLarge
+listing_of (Err script_error.NoMemory) = Err status.NoMemory
+
+-- what `list` makes of the source's bytes: the rows of the sorted map of all puts, or why there are none
+abbrev pub listing : List ℕ → Result (List ℕ) Status
+listing bytes = listing_of (script_of bytes)
+
+-- ---- how the parts of `list` answer
+
+-- what is expected, unless memory ran out
+abbrev pub Gives : Result (List ℕ) Status → Result (List ℕ) Status → Type 0
+Gives (Err status.NoMemory) expected = Unit {0}
+Gives result expected = expected ≡ result
+
+-- the same, unless the source failed
+abbrev pub GivesOrFault : Result (List ℕ) Status → Result (List ℕ) Status → Type 0
+GivesOrFault (Err status.SourceFault) expected = Unit {0}
+GivesOrFault (Err status.NoMemory) expected = Unit {0}
+GivesOrFault result expected = expected ≡ result
+
+-- the statuses that end `list` before it prints
+abbrev pub EndsEarly : Status → Type 0
+EndsEarly (status.BadLine line cause) = Unit {0}
+EndsEarly status.SourceFault = Unit {0}
+EndsEarly status.TooLarge = Unit {0}
+EndsEarly status.NoMemory = Unit {0}
+EndsEarly _ = ⊥

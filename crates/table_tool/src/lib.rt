@@ -1,0 +1,17 @@
+//! The commands of the table: the top calls, which carry what a user relies on.
+#![tactic(auto)]
+
+mod fault_line;
+mod input;
+mod laws;
+mod list;
+mod numbers;
+mod printing;
+mod request;
+mod status;
+mod table;
+mod tool;
+
+pub use laws::law_numbers_are_named;
+pub use status::Status;
+pub use tool::{run, run_query};

@@ -1,0 +1,38 @@
+ghost use Rattle.std.specs.Prelude.{◌≡◌};
+ghost use Rattle.table_tool.specs.Numbers.{number_of};
+
+use script_text::LineCause;
+
+/// How a run ended.
+#[derive(Clone, Copy, Debug, PartialEq, Eq)]
+pub enum Status {
+    Ok,
+    /// The words are no command, or a text in them isn't accepted.
+    Usage,
+    /// The first line of the script that isn't accepted, counted from 1, and its cause.
+    BadLine(u32, LineCause),
+    /// The source failed.
+    SourceFault,
+    /// The sink failed.
+    SinkFault,
+    /// The script has over 67,108,864 bytes or 1,000,000 lines.
+    TooLarge,
+    NoMemory,
+}
+
+impl Status {
+    /// The exit status of the program.
+    pub fn number(&self) -> u8
+        ensures { result ≡ number_of self.now }
+    {
+        match self {
+            Status::Ok => 0,
+            Status::Usage => 1,
+            Status::BadLine(_, _) => 2,
+            Status::SourceFault => 4,
+            Status::SinkFault => 5,
+            Status::TooLarge => 10,
+            Status::NoMemory => 12,
+        }
+    }
+}

@@ -1,0 +1,5 @@
+//! Worked rows that cross the crates, as tests.
+#![tactic(auto)]
+
+#[cfg(test)]
+mod rows;

@@ -1,0 +1,200 @@
+//! Rows of `list`.
+ghost use Rattle.std.specs.Prelude.{◌<◌, IfOk};
+
+use outside::{Fail, MemSink, MemSource, MemStore, OpenGate};
+use std::alloc::{AllocError, Global};
+use std::test::Fail as TestFail;
+use std::thread::Threads;
+use table_tool::{Status, run};
+
+const LIST: [&str; 3] = ["list", "--schema", "(int; ; text)"];
+
+/// The source of a test: its bytes, how many a pull gives at most, and the pulls that fail.
+#[derive(Drop)]
+struct Feed {
+    bytes: Vec<u8>,
+    piece: usize,
+    fails: Vec<u64>,
+}
+
+fn words(alloc: Global, texts: &[&str]) -> Result<Vec<String>, AllocError> {
+    let mut all = Vec::new(alloc);
+    for text in texts {
+        all.push(String::from_str(alloc, text)?)?;
+    }
+    Ok(all)
+}
+
+/// The status of a run, and its sink.
+fn done<R: Threads + Sync>(
+    rt: &R,
+    alloc: Global,
+    texts: &[&str],
+    feed: Feed,
+    fails: Vec<Fail>,
+) -> Result<(Status, MemSink), AllocError>
+    requires { 0 < feed.piece }
+{
+    let words = words(alloc, texts)?;
+    let mut source = MemSource::new(feed.bytes, feed.piece, feed.fails);
+    let mut sink = MemSink::new(alloc, fails);
+    let mut store = MemStore::new(alloc, Vec::new(alloc));
+    let status = run(
+        rt,
+        alloc,
+        &words,
+        &mut source,
+        &mut sink,
+        &mut store,
+        &OpenGate,
+    );
+    Ok((status, sink))
+}
+
+fn feed_of(alloc: Global, script: &[u8]) -> Result<Feed, AllocError>
+    ensures { IfOk result (λ f. 0 < f.piece) }
+{
+    Ok(Feed {
+        bytes: script.to_vec(alloc)?,
+        piece: 5,
+        fails: Vec::new(alloc),
+    })
+}
+
+#[test]
+fn scripts_are_listed_or_refused(rt: HostRuntime) -> Result<(), TestFail> {
+    let alloc = rt.alloc();
+    for (script, number, text) in [
+        (
+            b"put (2) () = 'b'\nput (1) () = 'a'\nput (2) () = 'c'".as_slice(),
+            0,
+            "(1) () = 'a'\n(2) () = 'c'\nrows 2\n",
+        ),
+        (b"get (1) ()", 2, "error: line 1: bad text at 0\n"),
+        (b"", 0, "rows 0\n"),
+        (
+            b" put(-2147483648)( )='it''s' \nput (0) () = ''\n",
+            0,
+            "(-2147483648) () = 'it''s'\n(0) () = ''\nrows 2\n",
+        ),
+        (
+            b"put (1) () = 'a'\nput (2147483648) () = 'b'",
+            2,
+            "error: line 2: bad text at 0\n",
+        ),
+        (
+            b"put (99999999999999999999) () = 'b'",
+            2,
+            "error: line 1: bad text at 0\n",
+        ),
+        (b"put (01) () = 'a'", 2, "error: line 1: bad text at 0\n"),
+        (b"put (-0) () = 'a'", 2, "error: line 1: bad text at 0\n"),
+        (b"put (1) () = 'a' x", 2, "error: line 1: bad text at 0\n"),
+        (
+            b"put (1) () = 'a'\n\nput (2) () = 'b'",
+            2,
+            "error: line 2: bad text at 0\n",
+        ),
+        (b"put (1) () = '\xFF'", 2, "error: line 1: bad text at 0\n"),
+    ] {
+        let (status, sink) = done(&rt, alloc, &LIST, feed_of(alloc, script)?, Vec::new(alloc))?;
+        assert_eq!(rt; status.number(), number, "{text}");
+        assert_eq!(rt; sink.written(), text.as_bytes(), "{text}");
+    }
+    Ok(())
+}
+
+#[test]
+fn words_are_refused(rt: HostRuntime) -> Result<(), TestFail> {
+    let alloc = rt.alloc();
+    for texts in [
+        [].as_slice(),
+        &["list"],
+        &["list", "--schema", "(int; int; text)"],
+        &["list", "--schema", "(int; ; text)", "--cells", "1024"],
+        &["list", "--schema", "(int; ; text)", "help"],
+        &["rows", "--schema", "(int; ; text)"],
+    ] {
+        let (status, sink) = done(
+            &rt,
+            alloc,
+            texts,
+            feed_of(alloc, b"put (1) () = 'a'")?,
+            Vec::new(alloc),
+        )?;
+        assert_eq!(rt; status, Status::Usage);
+        assert_eq!(rt; sink.written(), b"error: usage\n".as_slice());
+    }
+    Ok(())
+}
+
+#[test]
+fn a_failed_pull_is_told(rt: HostRuntime) -> Result<(), TestFail> {
+    let alloc = rt.alloc();
+    for call in [1, 2] {
+        let mut feed = feed_of(alloc, b"put (1) () = 'a'")?;
+        feed.fails.push(call)?;
+        let (status, sink) = done(&rt, alloc, &LIST, feed, Vec::new(alloc))?;
+        assert_eq!(rt; status.number(), 4);
+        assert_eq!(rt; sink.written(), b"error: source fault\n".as_slice());
+    }
+    Ok(())
+}
+
+#[test]
+fn a_failed_push_keeps_a_prefix(rt: HostRuntime) -> Result<(), TestFail> {
+    let alloc = rt.alloc();
+    for (script, number, kept) in [
+        (b"put (1) () = 'a'".as_slice(), 5, b"(1) (".as_slice()),
+        (b"get (1) ()", 2, b"error"),
+    ] {
+        let fails = vec![in alloc; Fail { call: 1, keep: 5 }]?;
+        let (status, sink) = done(&rt, alloc, &LIST, feed_of(alloc, script)?, fails)?;
+        assert_eq!(rt; status.number(), number);
+        assert_eq!(rt; sink.written(), kept);
+    }
+    Ok(())
+}
+
+/// A put line of a value of so many letters.
+fn line_of(alloc: Global, letters: usize) -> Result<Vec<u8>, AllocError> {
+    let mut line = b"put (1) () = '".to_vec(alloc)?;
+    for _ in 0..letters {
+        line.push(b'x')?;
+    }
+    line.push(b'\'')?;
+    Ok(line)
+}
+
+#[test]
+fn values_have_a_greatest_length(rt: HostRuntime) -> Result<(), TestFail> {
+    let alloc = rt.alloc();
+    for (letters, number) in [(65_535, 0), (65_536, 2)] {
+        let mut feed = feed_of(alloc, b"")?;
+        feed.bytes = line_of(alloc, letters)?;
+        feed.piece = 4096;
+        let (status, _) = done(&rt, alloc, &LIST, feed, Vec::new(alloc))?;
+        assert_eq!(rt; status.number(), number, "{letters}");
+    }
+    Ok(())
+}
+
+#[test]
+fn scripts_have_a_greatest_size(rt: HostRuntime) -> Result<(), TestFail> {
+    let alloc = rt.alloc();
+    for (byte, count, number) in [
+        (b'\n', 1_000_000, 2),
+        (b'\n', 1_000_001, 10),
+        (b' ', 67_108_864, 2),
+        (b' ', 67_108_865, 10),
+    ] {
+        let feed = Feed {
+            bytes: vec![in alloc; byte; count]?,
+            piece: 4096,
+            fails: Vec::new(alloc),
+        };
+        let (status, _) = done(&rt, alloc, &LIST, feed, Vec::new(alloc))?;
+        assert_eq!(rt; status.number(), number, "{count}");
+    }
+    Ok(())
+}
