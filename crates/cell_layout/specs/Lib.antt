@@ -1,0 +1,4 @@
+pub mod Words
+pub mod Pointers
+pub mod Slots
+pub mod Laws
