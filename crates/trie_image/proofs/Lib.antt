@@ -1,0 +1,16 @@
+pub mod Readings
+pub mod Owners
+pub mod Falls
+pub mod Children
+pub mod Advances
+pub mod Inside
+pub mod Kept
+pub mod WellFormedLemmas
+pub mod Betters
+pub mod Relinked
+pub mod Grown
+pub mod Live
+pub mod Tails
+pub mod Opening
+pub mod Entries
+pub mod Nodes

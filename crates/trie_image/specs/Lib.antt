@@ -1,0 +1,10 @@
+pub mod Reading
+pub mod Image
+pub mod Paths
+pub mod Cell
+pub mod Puts
+pub mod WellFormed
+pub mod Place
+pub mod Same
+pub mod Relink
+pub mod Laws

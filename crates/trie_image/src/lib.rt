@@ -1,0 +1,158 @@
+//! The trie in memory as an image: a list of 64-bit words, four for each cell of `cell_layout`.
+//!
+//! An image keeps the puts of a table's shard. A walk loads one word at a time and goes from place to place; between two
+//! loads the words may change. What an image means, which images are well formed and what each store of a put changes
+//! is defined in `specs/` and proved here, without threads. Made after Apache Cassandra's InMemoryTrie.md.
+#![tactic(auto)]
+
+ghost use Rattle.trie_image.specs.Laws.{LawPaths, LawClosed, LawFalls, LawOpening, LawStart, LawAdvance, LawInside, LawSame, LawFresh, LawFreeSlot};
+ghost use Rattle.trie_image.specs.Relink.{LawRelink};
+
+use std::collections::LinkedList;
+
+pub mod walk;
+
+/// Which word a place of a walk loads next, and what for.
+#[derive(Clone, Copy, PartialEq, Eq, Debug)]
+pub enum Role {
+    /// The root pointer.
+    Root,
+    /// The byte of a chain cell that the pointer names.
+    Chain,
+    /// Word 3 of a sparse cell.
+    Order,
+    /// The child pointer in a slot of a sparse cell.
+    Slot,
+    /// A split node's pointer to a mid cell.
+    Top,
+    /// A mid cell's pointer to a leaf cell.
+    Mid,
+    /// A leaf cell's child pointer.
+    Leaf,
+    /// The two pointers of a prefix cell.
+    Prefix,
+    /// The head of a record.
+    Head,
+}
+
+/// A place of a walk for a key. `ptr` is the pointer of the node or cell, `part` the slot or the key's next byte where the
+/// role needs it, and `taken` the number of bytes of the key that the walk has taken.
+#[derive(Clone, Copy, PartialEq, Eq, Debug)]
+pub struct Place {
+    pub role: Role,
+    pub ptr: u32,
+    pub part: u8,
+    pub taken: u32,
+}
+
+/// A record: its first cell, the number of its put, from 1, and the length of the value in bytes.
+#[derive(Clone, Copy, PartialEq, Eq, Debug)]
+pub struct Rec {
+    pub cell: u32,
+    pub number: u32,
+    pub length: u32,
+}
+
+/// What a load leads to.
+#[derive(Clone, Copy, PartialEq, Eq, Debug)]
+pub enum Advance {
+    /// The walk goes on at a place.
+    On(Place),
+    /// The walk ends at the key's record.
+    Found(Rec),
+    /// The walk ends without a record.
+    Absent,
+}
+
+/// A put and the first cell of its record. Contracts speak of it; no value of it is made.
+pub struct Put {
+    pub key: LinkedList<u8>,
+    pub value: LinkedList<u8>,
+    pub cell: u32,
+}
+
+/// Whose a cell is. Contracts speak of it; no value of it is made.
+pub enum Owner {
+    /// Cell 0.
+    HeadCell,
+    /// The record of a put, by the put's number and the cell's number in the record, both from 0.
+    RecordCell(u32, u32),
+    /// A chain cell, by the offset at which it was entered when it was made, and the path of its child pointer.
+    ChainCell(u8, LinkedList<u8>),
+    /// A sparse cell, by its path.
+    SparseCell(LinkedList<u8>),
+    /// The top cell of a split node, by the node's path.
+    TopCell(LinkedList<u8>),
+    /// A mid cell, by its node's top cell and its index there.
+    MidCell(u32, u8),
+    /// A leaf cell, by its node's top cell, its mid cell's index there and its index in the mid cell.
+    LeafCell(u32, u8, u8),
+    /// A prefix cell, by its path.
+    PrefixCell(LinkedList<u8>),
+}
+
+/// The owners of the cells taken so far, from cell 0 on, and the puts so far. Contracts speak of it; no value of it is
+/// made.
+pub struct Ledger {
+    pub owners: LinkedList<Owner>,
+    pub puts: LinkedList<Put>,
+}
+
+/// Each pointer has at most one path.
+pub fn law_paths()
+    ensures { LawPaths }
+{}
+
+/// A child under a byte has its parent's path and this byte.
+pub fn law_closed()
+    ensures { LawClosed }
+{}
+
+/// Each load lowers a number that the place and the key's length give, whatever the word is.
+pub fn law_falls()
+    ensures { LawFalls }
+{}
+
+/// The image whose words are all 0 is well formed without puts.
+pub fn law_opening()
+    ensures { LawOpening }
+{}
+
+/// The start is the place of the root, and its number is at most `4 * len + 3` for a key of `len` bytes.
+pub fn law_start()
+    ensures { LawStart }
+{}
+
+/// A place's own word leads to a place that sees the same, to the record that is seen, or to none where none is seen.
+pub fn law_advance()
+    ensures { LawAdvance }
+{}
+
+/// The word that a place loads lies in the image.
+pub fn law_inside()
+    ensures { LawInside }
+{}
+
+/// A store that no pointer with a path reads keeps the image, its places, and what they and all such pointers see.
+pub fn law_same()
+    ensures { LawSame }
+{}
+
+/// A store beyond the cells taken, or into word 0, is one that no pointer with a path reads.
+pub fn law_fresh()
+    ensures { LawFresh }
+{}
+
+/// So is a store of a pointer into the slot of a sparse cell that its order word doesn't name.
+pub fn law_free_slot()
+    ensures { LawFreeSlot }
+{}
+
+/// Where one pointer stands in place of another that sees the same but for one key, every pointer with a path sees what it
+/// saw, or its path and the rest of the key are this key and it sees the new record.
+pub fn law_relink()
+    ensures { LawRelink }
+{}
+
+#[cfg(test)]
+mod tests;
