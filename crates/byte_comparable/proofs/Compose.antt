@@ -16,7 +16,7 @@ use Rattle.byte_comparable.proofs.Long.{big_kept, big_are_bytes}
 text_kept : (a b : List ℕ) → KeptAs (escaped a) (escaped b) (slice_cmp nat_cmp a b)
 text_kept a b = rw (escaped_plain a, escaped_plain b) (plain_kept a b)
 
-text_bytes : (a : List ℕ) → AreBytes a → AreBytes (escaped a)
+pub text_bytes : (a : List ℕ) → AreBytes a → AreBytes (escaped a)
 text_bytes a h = rw (escaped_plain a) (plain_bytes a h)
 
 truth_kept : (a b : Bool) → KeptAs (encoding boolean (truth a)) (encoding boolean (truth b)) (order_by boolean (truth a) (truth b))

@@ -15,14 +15,14 @@ use Rattle.byte_comparable.proofs.Numbers.{Within, held, high_kept, high_are_byt
 
 -- ---- which form a number has
 
-abbrev top : ℕ → ℕ
+abbrev pub top : ℕ → ℕ
 top k = 2 ^ (7 * k + 6)
 
-abbrev floor : ℕ → ℕ
+abbrev pub floor : ℕ → ℕ
 floor zero = 0
 floor (suc k) = top k
 
-data Form (n : ℕ) (l : List ℕ) : Type 0 where
+pub data Form (n : ℕ) (l : List ℕ) : Type 0 where
   few : (k : ℕ) → k ≤ 7 → l ≡ sized (suc k) n → floor k ≤ n → n < top k → Form n l
   nine : l ≡ 255 ∷ bytes_high_first 8 (n + 2 ^ 63) → 2 ^ 55 ≤ n → Form n l
 
@@ -30,7 +30,7 @@ step : (n m : ℕ) (x y : List ℕ) (b : Bool) → nat_lt n m ≡ b → (n < m �
 step n m x y true e f g = f (grind (arith, nat_tests))
 step n m x y false e f g = g (grind (arith, nat_tests))
 
-form : (n : ℕ) → Form n (long_bytes n)
+pub form : (n : ℕ) → Form n (long_bytes n)
 form n =
     step n (2 ^ 6) _ _ _ refl (λ t. few 0 (omega arith) refl (omega arith) t) (λ f0.
     step n (2 ^ 13) _ _ _ refl (λ t. few 1 (omega arith) refl f0 t) (λ f1.
@@ -57,7 +57,7 @@ under (suc (suc (suc (suc (suc zero))))) n h l = omega arith
 under (suc (suc (suc (suc (suc (suc zero)))))) n h l = omega arith
 under (suc (suc (suc (suc (suc (suc (suc k))))))) n h l = absurd (omega arith)
 
-pow_up : (i j : ℕ) → i ≤ j → 2 ^ i ≤ 2 ^ j
+pub pow_up : (i j : ℕ) → i ≤ j → 2 ^ i ≤ 2 ^ j
 pow_up i j h = by (nat_lt i j) refl
   where
     by : (b : Bool) → nat_lt i j ≡ b → 2 ^ i ≤ 2 ^ j
@@ -72,7 +72,7 @@ most_128 k h = pow_up (7 - k) 7 (omega arith)
 
 -- ---- forms of different lengths, and of one length
 
-floor_up : (j k n : ℕ) → j < k → floor k ≤ n → top j ≤ n
+pub floor_up : (j k n : ℕ) → j < k → floor k ≤ n → top j ≤ n
 floor_up j zero n h f = absurd (omega arith)
 floor_up j (suc k) n h f = let p = pow_up (7 * j + 6) (7 * k + 6) (omega arith) in omega arith
 

@@ -57,7 +57,7 @@ power k = omega arith
 longer : (k m : ℕ) → m % 256 ^ suc k ≡ (m / 256 ^ k % 256) * 256 ^ k + m % 256 ^ k
 longer k m = ap (λ x. m % x) (power k) ∙ digit m (256 ^ k) (positive k)
 
-byte_is : (k n : ℕ) → byte_at k n ≡ n / 256 ^ k % 256
+pub byte_is : (k n : ℕ) → byte_at k n ≡ n / 256 ^ k % 256
 byte_is zero n = let e : n / 1 ≡ n = omega arith in ap (λ x. x % 256) (sym e)
 byte_is (suc k) n = refl
 
@@ -111,7 +111,7 @@ pub in_31 : (x : ℤ) → IsTrue (within (negsuc 2147483647) (pos 2147483648) x)
 in_31 (pos n) h = grind (arith, nat_tests)
 in_31 (negsuc n) h = grind (arith, nat_tests)
 
-small_mod : (n w : ℕ) → n < w → n % w ≡ n
+pub small_mod : (n w : ℕ) → n < w → n % w ≡ n
 small_mod n w h = let e : 0 * w + n ≡ n = omega arith in subst (λ (x : ℕ). x % w ≡ n) e (mod-mul-add 0 w n h)
 
 -- numbers that so many bytes hold

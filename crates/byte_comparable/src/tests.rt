@@ -51,17 +51,18 @@ fn pair(alloc: Global) -> Result<Value, Fail> {
     Ok(Value::Tuple(ValueList::More(Box::new(alloc, Value::Number(1))?, Box::new(alloc, text)?)))
 }
 
-/// The encoding of a value that fits.
-fn encoded(
+fn assert_spelled(
     rt: &impl Abort,
     alloc: Global,
     kind: &ColType,
-    value: &Value,
-) -> Result<ByteList, Fail> {
-    assert!(rt; fits(kind, value));
+    value: Value,
+    want: &[u8],
+) -> Result<(), Fail> {
+    assert!(rt; fits(kind, &value));
     let mut out = ByteList::new(alloc);
-    encode_into(kind, value, &mut out)?;
-    Ok(out)
+    encode_into(kind, &value, &mut out)?;
+    assert_eq!(rt; out.as_slice(), want);
+    Ok(())
 }
 
 #[test]
@@ -79,8 +80,7 @@ fn numbers_go_by_their_length(rt: HostRuntime) -> Result<(), Fail> {
         (i64::MIN, &[0; 9]),
     ];
     for (number, want) in rows {
-        let string = encoded(&rt, alloc, &ColType::BigInt, &Value::Number(number))?;
-        assert_eq!(rt; string.as_slice(), want, "bigint {number}");
+        assert_spelled(&rt, alloc, &ColType::BigInt, Value::Number(number), want)?;
     }
     Ok(())
 }
@@ -114,37 +114,26 @@ fn zeros_in_blobs(rt: HostRuntime) -> Result<(), Fail> {
 #[test]
 fn reversed_values_and_tuples(rt: HostRuntime) -> Result<(), Fail> {
     let alloc = rt.alloc();
-    let rows: [(ColType, Value, &[u8]); 5] = [
-        (
-            reversed_kind(alloc, ColType::Int)?,
-            Value::Number(1),
-            &[0x7F, 0xFF, 0xFF, 0xFE],
-        ),
-        (
-            reversed_kind(alloc, ColType::Text)?,
-            bytes_value(alloc, b"ab")?,
-            &[0x9E, 0x9D, 0xFF],
-        ),
-        (
-            reversed_kind(alloc, ColType::Text)?,
-            bytes_value(alloc, b"a")?,
-            &[0x9E, 0xFF],
-        ),
-        (
-            reversed_kind(alloc, ColType::Text)?,
-            bytes_value(alloc, b"")?,
-            &[0xFF],
-        ),
-        (
-            pair_kind(alloc)?,
-            pair(alloc)?,
-            &[0x40, 0x80, 0, 0, 1, 0x40, 0x61, 0, 0x38],
-        ),
-    ];
-    for (kind, value, want) in rows {
-        let string = encoded(&rt, alloc, &kind, &value)?;
-        assert_eq!(rt; string.as_slice(), want);
-    }
+    let int = reversed_kind(alloc, ColType::Int)?;
+    assert_spelled(
+        &rt,
+        alloc,
+        &int,
+        Value::Number(1),
+        &[0x7F, 0xFF, 0xFF, 0xFE],
+    )?;
+    let text = reversed_kind(alloc, ColType::Text)?;
+    assert_spelled(
+        &rt,
+        alloc,
+        &text,
+        bytes_value(alloc, b"ab")?,
+        &[0x9E, 0x9D, 0xFF],
+    )?;
+    assert_spelled(&rt, alloc, &text, bytes_value(alloc, b"a")?, &[0x9E, 0xFF])?;
+    assert_spelled(&rt, alloc, &text, bytes_value(alloc, b"")?, &[0xFF])?;
+    let want = [0x40, 0x80, 0, 0, 1, 0x40, 0x61, 0, 0x38];
+    assert_spelled(&rt, alloc, &pair_kind(alloc)?, pair(alloc)?, &want)?;
     let schema = schema_of(alloc, pair_kind(alloc)?, ColType::Int)?;
     let string = partition_string(alloc, &schema, &one_value(alloc, pair(alloc)?)?)?;
     let want = [0x40, 0x40, 0x80, 0, 0, 1, 0x40, 0x61, 0, 0x38, 0x38];

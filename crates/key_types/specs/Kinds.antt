@@ -1,4 +1,4 @@
--- Types and values of key components, without pointers, and the order of the values.
+-- Types and values of key components, without pointers, and the order of the values. The types are those of CQL; the order is that of ByteComparable.md of Apache Cassandra (typed comparison).
 use Rattle.std.specs.Prelude.{ℕ, List, [], ◌∷◌, ◌<◌, Bool, true, false, ◌&&◌, ℤ, pos, negsuc, int_le, int_lt, nat_lt, IsTrue}
 use Rattle.std.specs.Str.{is_utf8}
 use Rattle.std.specs.declared.cmp.Ordering.{Ordering}
@@ -10,6 +10,7 @@ use Rattle.key_types.specs.declared.kinds.TypeList.{TypeList, End, More'}
 use Rattle.key_types.specs.declared.kinds.Value as v
 use Rattle.key_types.specs.declared.kinds.ValueList as vs
 
+-- a type, and a list of types
 mutual
   pub data Kind : Type 0 where
     tiny : Kind
@@ -26,6 +27,7 @@ mutual
     end : Kinds
     more : Kind → Kinds → Kinds
 
+-- a value, and a list of values
 mutual
   pub data Val : Type 0 where
     number : ℤ → Val
@@ -37,6 +39,7 @@ mutual
     none : Vals
     and : Val → Vals → Vals
 
+-- what a type and a list of types in memory stand for
 abbrev mutual
   pub kind_of : ColType → Kind
   kind_of TinyInt = tiny
@@ -53,6 +56,7 @@ abbrev mutual
   kinds_of End = end
   kinds_of (More' p t q ts) = more (kind_of t) (kinds_of ts)
 
+-- what a value and a list of values in memory stand for
 abbrev mutual
   pub value_of : v.Value → Val
   value_of (v.Number n) = number n
@@ -64,14 +68,16 @@ abbrev mutual
   values_of vs.End = none
   values_of (vs.More' p t q ts) = and (value_of t) (values_of ts)
 
+-- a number from the first bound on, and below the second
 abbrev pub within : ℤ → ℤ → ℤ → Bool
 within low high n = int_le low n && int_lt n high
 
+-- each is below 256
 abbrev pub AreBytes : List ℕ → Type 0
 AreBytes [] = Unit {0}
 AreBytes (b ∷ bs) = (b < 256) × AreBytes bs
 
--- a value of the type
+-- the value is one of the type
 abbrev mutual
   pub Fits : Kind → Val → Type 0
   Fits tiny (number n) = IsTrue (within (negsuc 127) (pos 128) n)
@@ -90,11 +96,12 @@ abbrev mutual
   EachFits (more t ts) (and v vs) = Fits t v × EachFits ts vs
   EachFits _ _ = ⊥
 
+-- each is below 256, as a test that computes
 abbrev pub all_bytes : List ℕ → Bool
 all_bytes [] = true
 all_bytes (b ∷ bs) = nat_lt b 256 && all_bytes bs
 
--- the same as a test that computes: it is true exactly on values of the type
+-- that a value is one of the type, as a test that computes: `fits` answers it, and tells by it that the value fits
 abbrev mutual
   pub fits_by : Kind → Val → Bool
   fits_by tiny (number n) = within (negsuc 127) (pos 128) n
@@ -113,7 +120,7 @@ abbrev mutual
   all_fit_by (more t ts) (and v vs) = fits_by t v && all_fit_by ts vs
   all_fit_by _ _ = false
 
--- numbers by size, bytes and truths as they stand, tuples component by component, a reversed type the other way round
+-- the order of two values of a type: numbers by size, bytes unsigned (a proper prefix is less), false before true, tuples component by component, a reversed type the other way round
 abbrev mutual
   pub order_by : Kind → Val → Val → Ordering
   order_by (reversed t) a b = ordering_reverse (order_by t a b)

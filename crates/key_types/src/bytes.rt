@@ -24,14 +24,19 @@ impl<T: Drop> From<AllocFailed<T>> for NoMemory {
     }
 }
 
-/// Bytes that contracts see as a list.
+/// Growing bytes, which contracts see as a list of numbers below 256.
+///
+/// What finds no memory answers `NoMemory` and leaves the bytes as they were. Byte strings go by their first
+/// different byte, unsigned, and a proper prefix is less.
 #[derive(Debug, Drop)]
 pub struct ByteList {
     items: Vec<u8>,
 }
 
+/// The string of a key, or a part of it.
 pub type KeyBytes = ByteList;
 
+/// The bytes of a row's value.
 pub type ValueBytes = ByteList;
 
 impl Model for ByteList {
@@ -43,6 +48,7 @@ impl Model for ByteList {
 }
 
 impl ByteList {
+    /// No bytes, and no memory yet.
     pub fn new(alloc: Global) -> ByteList
         ensures { result ≡ [] }
     {
@@ -51,12 +57,14 @@ impl ByteList {
         }
     }
 
+    /// The bytes of a vector.
     pub fn from_vec(items: Vec<u8>) -> ByteList
         ensures { result ≡ items.items }
     {
         ByteList { items }
     }
 
+    /// The bytes as a vector.
     pub fn into_vec(self) -> Vec<u8>
         ensures { result.items ≡ self }
     {
@@ -64,6 +72,7 @@ impl ByteList {
         items
     }
 
+    /// Puts a byte at the end.
     pub fn push(&mut self, item: u8) -> Result<(), NoMemory>
         ensures ok { OnOk result (self.new ≡ self.old ++ item ∷ []) }
         ensures err { OnErr result (self.new ≡ self.old) }
@@ -72,6 +81,7 @@ impl ByteList {
         Ok(())
     }
 
+    /// Puts all of `more` at the end.
     pub fn extend(&mut self, more: &[u8]) -> Result<(), NoMemory>
         ensures ok { OnOk result (self.new ≡ self.old ++ more.now) }
         ensures err { OnErr result (self.new ≡ self.old) }
@@ -80,13 +90,14 @@ impl ByteList {
         Ok(())
     }
 
+    /// Keeps the first `len` bytes, or all where there are fewer.
     pub fn truncate(&mut self, len: usize)
         ensures { self.new ≡ take len self.old }
     {
         self.items.truncate(len);
     }
 
-    /// Turns each byte from a place on into its complement.
+    /// Turns each byte from place `at` on into its complement.
     pub fn complement_from(&mut self, at: usize)
         requires { at ≤ length self.old }
         ensures { self.new ≡ take at self.old ++ map (λ b. 255 - b) (drop at self.old) }
@@ -95,18 +106,21 @@ impl ByteList {
         complement(tail);
     }
 
+    /// The number of bytes.
     pub fn len(&self) -> usize
         ensures { result ≡ length self.now }
     {
         self.items.len()
     }
 
+    /// The byte at place `i`, counted from 0, and `None` exactly where there are not so many.
     pub fn get(&self, i: usize) -> Option<&u8>
         ensures { option_copied result ≡ slice_get self.now i }
     {
         self.items.get(i)
     }
 
+    /// The bytes as a slice.
     pub fn as_slice(&self) -> &[u8]
         ensures { result.now ≡ self.now }
     {
@@ -152,6 +166,7 @@ impl Ord for ByteList {
     }
 }
 
+/// Turns each byte into its complement.
 fn complement(bytes: &mut [u8])
     ensures { bytes.new ≡ map (λ b. 255 - b) bytes.old }
 {

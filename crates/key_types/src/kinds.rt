@@ -5,21 +5,30 @@ ghost use Rattle.key_types.specs.Kinds.{kind_of, kinds_of, value_of, values_of, 
 use crate::bytes::ByteList;
 use std::cmp::Ordering;
 
-/// The type of a component of a key.
+/// The type of a component of a key, named as in CQL.
 #[cycle(col_type)]
 #[derive(Drop)]
 pub enum ColType {
+    /// A signed number of 8 bits.
     TinyInt,
+    /// A signed number of 16 bits.
     SmallInt,
+    /// A signed number of 32 bits.
     Int,
+    /// A signed number of 64 bits.
     BigInt,
+    /// UTF-8.
     Text,
+    /// Any bytes.
     Blob,
     Boolean,
+    /// As many components as types.
     Tuple(TypeList),
+    /// The values of the inner type, in descending order.
     Reversed(Box<ColType>),
 }
 
+/// The types of a list of components.
 #[cycle(col_type)]
 #[derive(Drop)]
 pub enum TypeList {
@@ -27,7 +36,7 @@ pub enum TypeList {
     More(Box<ColType>, Box<TypeList>),
 }
 
-/// A component of a key.
+/// A value of a component of a key: numbers of every width are `Number`, texts and blobs are `Bytes`.
 #[cycle(value)]
 #[derive(Drop)]
 pub enum Value {
@@ -37,6 +46,7 @@ pub enum Value {
     Tuple(ValueList),
 }
 
+/// The values of a list of components.
 #[cycle(value)]
 #[derive(Drop)]
 pub enum ValueList {
@@ -44,7 +54,7 @@ pub enum ValueList {
     More(Box<Value>, Box<ValueList>),
 }
 
-/// Whether the value is one of the type.
+/// Whether the value is one of the type. A reversed type has the values of its inner type.
 #[cycle(fits)]
 pub fn fits(kind: &ColType, value: &Value) -> bool
     ensures fits { IsTrue result ↔ Fits (kind_of kind.now) (value_of value.now) }
@@ -65,6 +75,7 @@ pub fn fits(kind: &ColType, value: &Value) -> bool
     }
 }
 
+/// Whether there are as many values as types, and each fits its own.
 #[cycle(fits)]
 fn all_fit(kinds: &TypeList, values: &ValueList) -> bool
     ensures fits { IsTrue result ↔ EachFits (kinds_of kinds.now) (values_of values.now) }
@@ -79,7 +90,8 @@ fn all_fit(kinds: &TypeList, values: &ValueList) -> bool
     }
 }
 
-/// The order of two values of the type.
+/// The order of two values that fit the type: numbers by size, texts and blobs by unsigned bytes, false before
+/// true, tuples component by component, and a reversed type the other way round.
 #[cycle(compare)]
 pub fn compare(kind: &ColType, a: &Value, b: &Value) -> Ordering
     ensures { result ≡ order_by (kind_of kind.now) (value_of a.now) (value_of b.now) }
@@ -94,6 +106,7 @@ pub fn compare(kind: &ColType, a: &Value, b: &Value) -> Ordering
     }
 }
 
+/// The order of two lists of components, which the first different one decides.
 #[cycle(compare)]
 fn compare_all(kinds: &TypeList, a: &ValueList, b: &ValueList) -> Ordering
     ensures { result ≡ orders_by (kinds_of kinds.now) (values_of a.now) (values_of b.now) }

@@ -1,10 +1,12 @@
-//! Column types, values and schemas of one table.
+//! Column types, values and schemas of one table, and the small list types that all crates share.
 #![tactic(auto)]
 
 mod bytes;
 mod kinds;
 mod list;
 mod schema;
+#[cfg(test)]
+mod tests;
 
 pub use bytes::{ByteList, KeyBytes, NoMemory, ValueBytes};
 pub use kinds::{ColType, TypeList, Value, ValueList, compare, fits, is_text};
