@@ -34,7 +34,17 @@ fn order_of_values(rt: HostRuntime) -> Result<(), Fail> {
     let descending = ColType::Reversed(Box::new(alloc, ColType::Int)?);
     assert_less(&rt, descending, Value::Number(2), Value::Number(1));
     assert_less(&rt, ColType::Int, Value::Number(-1), Value::Number(1));
-    assert_less(&rt, ColType::Blob, bytes_value(alloc, &[0x7F])?, bytes_value(alloc, &[0x80])?);
-    assert_less(&rt, ColType::Text, bytes_value(alloc, b"a")?, bytes_value(alloc, b"ab")?);
+    assert_less(
+        &rt,
+        ColType::Blob,
+        bytes_value(alloc, &[0x7F])?,
+        bytes_value(alloc, &[0x80])?,
+    );
+    assert_less(
+        &rt,
+        ColType::Text,
+        bytes_value(alloc, b"a")?,
+        bytes_value(alloc, b"ab")?,
+    );
     Ok(())
 }
