@@ -1,0 +1,14 @@
+pub mod Least
+pub mod Rows
+pub mod Kept
+pub mod Choice
+pub mod Sizes
+pub mod Places
+pub mod Packed
+pub mod Climbing
+pub mod Found
+pub mod Again
+pub mod AgainFew
+pub mod AgainMany
+pub mod RoundTrip
+pub mod Numbers
