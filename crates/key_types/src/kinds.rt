@@ -77,7 +77,7 @@ pub fn fits(kind: &ColType, value: &Value) -> bool
 
 /// Whether there are as many values as types, and each fits its own.
 #[cycle(fits)]
-fn all_fit(kinds: &TypeList, values: &ValueList) -> bool
+pub fn all_fit(kinds: &TypeList, values: &ValueList) -> bool
     ensures fits { IsTrue result ↔ EachFits (kinds_of kinds.now) (values_of values.now) }
     ensures by { result ≡ all_fit_by (kinds_of kinds.now) (values_of values.now) }
 {

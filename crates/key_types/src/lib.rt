@@ -9,6 +9,6 @@ mod schema;
 mod tests;
 
 pub use bytes::{ByteList, KeyBytes, NoMemory, ValueBytes};
-pub use kinds::{ColType, TypeList, Value, ValueList, compare, fits, is_text};
+pub use kinds::{ColType, TypeList, Value, ValueList, all_fit, compare, fits, is_text};
 pub use list::ListOf;
 pub use schema::{Schema, ValueType};
