@@ -1,0 +1,43 @@
+ghost use Rattle.std.specs.Prelude.{◌≡◌};
+ghost use Rattle.grammar.specs.Code.{Furthest};
+
+use std::alloc::{AllocError, AllocFailed};
+
+/// Why nothing was read.
+#[derive(Clone, Copy, Debug, PartialEq, Eq)]
+pub enum Stop {
+    /// Memory ran out.
+    Memory,
+    /// No text of the grammar goes on where this many bytes are left.
+    At(usize),
+}
+
+impl From<AllocError> for Stop {
+    ghost use Rattle.grammar.specs.declared.stop.Stop.TheVariants.{Memory};
+
+    ghost from_gives = { λ _ e. e ≡ Memory };
+
+    fn from(_e: AllocError) -> Stop {
+        Stop::Memory
+    }
+}
+
+impl<T: Drop> From<AllocFailed<T>> for Stop {
+    ghost use Rattle.grammar.specs.declared.stop.Stop.TheVariants.{Memory};
+
+    ghost from_gives = { λ _ e. e ≡ Memory };
+
+    fn from(_e: AllocFailed<T>) -> Stop {
+        Stop::Memory
+    }
+}
+
+/// Of two stops the one further on, where fewer bytes are left; want of memory before both.
+pub fn further(a: Stop, b: Stop) -> Stop
+    ensures { Furthest a b result }
+{
+    match (a, b) {
+        (Stop::At(a), Stop::At(b)) => Stop::At(a.min(b)),
+        _ => Stop::Memory,
+    }
+}

@@ -1,0 +1,11 @@
+pub mod Text
+pub mod Turn
+pub mod Exact
+pub mod All
+pub mod Room
+pub mod Digits
+pub mod Bigints
+pub mod Link
+pub mod Answered
+pub mod Flipped
+pub mod Whole

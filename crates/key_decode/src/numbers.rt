@@ -1,0 +1,215 @@
+ghost use Rattle.std.specs.Prelude.{◌≡◌, ◌≤◌, ◌<◌, ◌+◌, ◌*◌, ◌^◌, [], ◌∷◌, length, IfOk, IfErr, ⊤, not};
+ghost use Rattle.grammar.specs.Code.{Gives};
+ghost use Rattle.grammar.specs.Reading.{literal};
+ghost use Rattle.grammar.specs.declared.stop.Stop.TheVariants.{At};
+ghost use Rattle.key_decode.specs.Reading.{seen, byte_from, number_at, count_behind, base, least_second, second_at, third_at, nine_at, long_at, big_at, signed_at, truth_at};
+ghost use Rattle.key_types.specs.Kinds.{value_of};
+
+use grammar::Stop;
+use key_types::Value;
+
+/// The next byte, as it stands or its complement, and the bytes behind it.
+pub fn next_byte(turned: bool, bytes: &[u8]) -> Result<(u8, &[u8]), Stop>
+    ensures ok { IfOk result (λ x. seen turned bytes.now ≡ x.0 ∷ seen turned x.1.now) }
+    ensures err { IfErr result (λ e. (e ≡ At 0) × (seen turned bytes.now ≡ [])) }
+    ensures shorter { IfOk result (λ x. length x.1.now < length bytes.now) }
+    ensures byte { IfOk result (λ x. x.0 < 256) }
+{
+    match bytes {
+        [] => Err(Stop::At(0)),
+        [byte, rest @ ..] => Ok((if turned { 255 - *byte } else { *byte }, rest)),
+    }
+}
+
+/// The other of bytes as they stand and their complements.
+pub fn flipped(turned: bool) -> bool
+    ensures { result ≡ not turned }
+{
+    !turned
+}
+
+/// A byte from a bound on.
+fn read_byte_from(turned: bool, low: u8, bytes: &[u8]) -> Result<(u8, &[u8]), Stop>
+    ensures from { IfOk result (λ x. low ≤ x.0) }
+    ensures byte { IfOk result (λ x. x.0 < 256) }
+    ensures gives { Gives (λ x. (x.0, seen turned x.1.now)) result (byte_from low (seen turned bytes.now)) }
+{
+    let (byte, rest) = next_byte(turned, bytes)?;
+    if byte < low {
+        return Err(Stop::At(bytes.len()));
+    }
+    Ok((byte, rest))
+}
+
+/// This byte.
+pub fn read_sign(turned: bool, sign: u8, bytes: &[u8]) -> Result<&[u8], Stop>
+    ensures { Gives (λ x. (tt, seen turned x.now)) result (literal (sign ∷ []) (seen turned bytes.now)) }
+{
+    let (byte, rest) = next_byte(turned, bytes)?;
+    if byte != sign {
+        return Err(Stop::At(bytes.len()));
+    }
+    Ok(rest)
+}
+
+/// A number of so many bytes behind those that were read.
+pub fn read_number(turned: bool, count: u8, number: u64, bytes: &[u8]) -> Result<(u64, &[u8]), Stop>
+    requires { (number + 1) * 256 ^ count ≤ 2 ^ 64 }
+    ensures gives { Gives (λ x. (x.0, seen turned x.1.now)) result (number_at count number (seen turned bytes.now)) }
+    ensures below { IfOk result (λ x. x.0 < (number + 1) * 256 ^ count) }
+{
+    if count == 0 {
+        return Ok((number, bytes));
+    }
+    let (byte, rest) = next_byte(turned, bytes)?;
+    read_number(turned, count - 1, number * 256 + u64::from(byte), rest)
+}
+
+/// How many bytes stand behind the first one of a bigint, where they aren't eight.
+fn count_of(first: u8) -> u8
+    ensures { result ≡ count_behind first }
+{
+    if first < 0xC0 {
+        0
+    } else if first < 0xE0 {
+        1
+    } else if first < 0xF0 {
+        2
+    } else if first < 0xF8 {
+        3
+    } else if first < 0xFC {
+        4
+    } else if first < 0xFE {
+        5
+    } else if first < 0xFF {
+        6
+    } else {
+        7
+    }
+}
+
+/// The least first byte with so many behind it.
+fn base_of(count: u8) -> u8
+    requires { count ≤ 7 }
+    ensures { result ≡ base count }
+{
+    match count {
+        0 => 0x80,
+        1 => 0xC0,
+        2 => 0xE0,
+        3 => 0xF0,
+        4 => 0xF8,
+        5 => 0xFC,
+        6 => 0xFE,
+        _ => 0xFF,
+    }
+}
+
+/// A bigint of nine bytes, behind its second byte.
+fn read_nine(turned: bool, second: u8, bytes: &[u8]) -> Result<(u64, &[u8]), Stop>
+    requires { 128 ≤ second }
+    ensures { Gives (λ x. (x.0, seen turned x.1.now)) result (nine_at second (seen turned bytes.now)) }
+{
+    let low = if second == 0x80 { 0x80 } else { 0 };
+    let (third, rest) = read_byte_from(turned, low, bytes)?;
+    read_number(
+        turned,
+        6,
+        u64::from(second - 0x80) * 256 + u64::from(third),
+        rest,
+    )
+}
+
+/// A bigint behind its second byte, where so many bytes more stand behind it if they aren't seven.
+fn read_third(
+    turned: bool,
+    more: u8,
+    first: u8,
+    second: u8,
+    bytes: &[u8],
+) -> Result<(u64, &[u8]), Stop>
+    requires few { more ≤ 6 }
+    requires base { base (more + 1) ≤ first }
+    requires near { first < base (more + 1) + 64 }
+    ensures { Gives (λ x. (x.0, seen turned x.1.now)) result (third_at more first second (seen turned bytes.now)) }
+{
+    if more == 6 && second >= 0x80 {
+        return read_nine(turned, second, bytes);
+    }
+    let high = first - base_of(more + 1);
+    read_number(
+        turned,
+        more,
+        u64::from(high) * 256 + u64::from(second),
+        bytes,
+    )
+}
+
+/// The least second byte behind a first one: a number that fewer bytes can hold is none.
+fn least_of(count: u8, first: u8) -> u8
+    requires some { 1 ≤ count }
+    requires few { count ≤ 7 }
+    ensures { result ≡ least_second count first }
+{
+    let base = base_of(count);
+    if first == base { 255 - base + 1 } else { 0 }
+}
+
+/// A bigint behind its first byte.
+fn read_second(turned: bool, count: u8, first: u8, bytes: &[u8]) -> Result<(u64, &[u8]), Stop>
+    requires few { count ≤ 7 }
+    requires base { base count ≤ first }
+    requires near { first < base count + 64 }
+    ensures { Gives (λ x. (x.0, seen turned x.1.now)) result (second_at count first (seen turned bytes.now)) }
+{
+    if count == 0 {
+        return read_number(turned, 0, u64::from(first - 0x80), bytes);
+    }
+    let (second, rest) = read_byte_from(turned, least_of(count, first), bytes)?;
+    read_third(turned, count - 1, first, second, rest)
+}
+
+/// A bigint from 0 up.
+fn read_long(turned: bool, bytes: &[u8]) -> Result<(u64, &[u8]), Stop>
+    ensures gives { Gives (λ x. (x.0, seen turned x.1.now)) result (long_at (seen turned bytes.now)) }
+    ensures below { IfOk result (λ x. x.0 < 2 ^ 63) }
+{
+    let (first, rest) = read_byte_from(turned, 0x80, bytes)?;
+    read_second(turned, count_of(first), first, rest)
+}
+
+/// A bigint: one below zero is the complement of -1 less the number.
+pub fn read_big(turned: bool, bytes: &[u8]) -> Result<(Value, &[u8]), Stop>
+    ensures { Gives (λ x. (value_of x.0, seen turned x.1.now)) result (big_at (seen turned bytes.now)) }
+{
+    let (first, _) = next_byte(turned, bytes)?;
+    if first >= 0x80 {
+        let (number, rest) = read_long(turned, bytes)?;
+        Ok((Value::Number(number as i64), rest))
+    } else {
+        match read_long(flipped(turned), bytes) {
+            Ok((number, rest)) => Ok((Value::Number(-1 - number as i64), rest)),
+            Err(stop) => Err(stop),
+        }
+    }
+}
+
+/// A signed number of so many bytes, half of whose numbers are below zero.
+pub fn read_signed(turned: bool, count: u8, half: u32, bytes: &[u8]) -> Result<(Value, &[u8]), Stop>
+    requires { count ≤ 4 }
+    ensures { Gives (λ x. (value_of x.0, seen turned x.1.now)) result (signed_at count half (seen turned bytes.now)) }
+{
+    let (number, rest) = read_number(turned, count, 0, bytes)?;
+    Ok((Value::Number(number as i64 - i64::from(half)), rest))
+}
+
+/// A truth: 0 or 1.
+pub fn read_truth(turned: bool, bytes: &[u8]) -> Result<(Value, &[u8]), Stop>
+    ensures { Gives (λ x. (value_of x.0, seen turned x.1.now)) result (truth_at (seen turned bytes.now)) }
+{
+    match next_byte(turned, bytes)? {
+        (0, rest) => Ok((Value::Truth(false), rest)),
+        (1, rest) => Ok((Value::Truth(true), rest)),
+        _ => Err(Stop::At(bytes.len())),
+    }
+}

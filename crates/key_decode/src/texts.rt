@@ -1,0 +1,66 @@
+ghost use Rattle.std.specs.Prelude.{◌≡◌, ◌≢◌, ◌<◌, length, IfOk, IfErr};
+ghost use Rattle.grammar.specs.Code.{Gives, Stops};
+ghost use Rattle.key_decode.specs.Texts.{at, gone};
+ghost use Rattle.key_decode.specs.declared.texts.Move.TheVariants.{End};
+ghost use Rattle.key_decode.specs.Reading.{seen, text_at};
+
+use crate::numbers::next_byte;
+use grammar::Stop;
+use key_types::ByteList;
+use std::alloc::Global;
+
+/// Where the reading of a text is: not behind a zero, behind one, or behind a run of zeros that goes on.
+#[derive(Clone, Copy, Debug, PartialEq, Eq)]
+pub enum Place {
+    Plain,
+    Behind,
+    After,
+}
+
+/// What a byte does: the text has ended before it, a run of zeros begins, or a byte of the text is read.
+#[derive(Clone, Copy, Debug, PartialEq, Eq)]
+pub enum Move {
+    End,
+    Begin,
+    Byte(u8, Place),
+}
+
+/// One move of the reading.
+fn step(place: Place, turned: bool, bytes: &[u8]) -> Result<(Move, &[u8]), Stop>
+    ensures ok { IfOk result (λ x. at place (seen turned bytes.now) ≡ gone x.0 (seen turned x.1.now)) }
+    ensures err { IfErr result (λ e. Stops e (at place (seen turned bytes.now))) }
+    ensures shorter { IfOk result (λ x. x.0 ≢ End → length x.1.now < length bytes.now) }
+{
+    match (place, next_byte(turned, bytes)) {
+        (Place::Plain, Ok((0, rest))) => Ok((Move::Begin, rest)),
+        (Place::Plain, Ok((byte, rest))) => Ok((Move::Byte(byte, Place::Plain), rest)),
+        (Place::Behind, Ok((0xFE, rest))) => Ok((Move::Byte(0, Place::Behind), rest)),
+        (Place::Behind, Ok((0xFF, rest))) => Ok((Move::Byte(0, Place::After), rest)),
+        (Place::Behind, _) => Ok((Move::End, bytes)),
+        (Place::After, Ok((byte, rest))) if byte != 0 => Ok((Move::Byte(byte, Place::Plain), rest)),
+        _ => Err(Stop::At(bytes.len())),
+    }
+}
+
+/// A text or a blob, and the bytes behind it.
+pub fn read_text(alloc: Global, turned: bool, bytes: &[u8]) -> Result<(ByteList, &[u8]), Stop>
+    ensures { Gives (λ x. (x.0, seen turned x.1.now)) result (text_at (seen turned bytes.now)) }
+{
+    let mut out = ByteList::new(alloc);
+    let mut rest = bytes;
+    let mut place = Place::Plain;
+    'bytes: loop {
+        let (next, after) = step(place, turned, rest)?;
+        match next {
+            Move::End => return Ok((out, after)),
+            Move::Begin => place = Place::Behind,
+            Move::Byte(byte, then) => {
+                if out.push(byte).is_err() {
+                    return Err(Stop::Memory);
+                }
+                place = then;
+            }
+        }
+        rest = after;
+    }
+}
