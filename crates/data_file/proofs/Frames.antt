@@ -1,0 +1,79 @@
+-- What the parts of a row say of its frame.
+use Rattle.std.proofs.Common.{◌≡◌, ◌∙◌, ℕ, ◌+◌, ◌<◌, ◌≤◌, ◌^◌, List, ◌∷◌, ◌++◌, length, arith, ap, sym, subst, append_assoc, length-append}
+use Rattle.key_types.specs.Kinds.{kinds_of}
+use Rattle.key_types.specs.declared.schema.Schema.{Schema}
+use Rattle.key_types.specs.declared.schema.ValueType.{ValueType}
+use Rattle.key_types.specs.declared.schema.ValueType.TheVariants.{Text, Blob}
+use Rattle.data_file.specs.Strings.{IsStringOf, IsValueOf}
+use Rattle.data_file.specs.Listing.{counted, row_bytes, IsRow}
+use Rattle.data_file.specs.Reading.{BeginsEnd, BeginsRow, NoHead, NoRow}
+use Rattle.data_file.specs.Parsing.{IsCutOff, IsFrame, NoFrame}
+use Rattle.data_file.proofs.Counted.{behind_first, counted-same, row-same}
+use Rattle.data_file.proofs.Words.{string_length}
+
+-- ---- heads
+
+pub no_head_cut : (schema : Schema) (bytes : List ℕ) → IsCutOff bytes → NoHead schema bytes
+no_head_cut schema bytes cut key (is, (rest, e)) =
+    let short = string_length (kinds_of schema.partition) key is in
+    cut key rest (omega arith) e
+
+pub no_head_else : (schema : Schema) (bytes key rest : List ℕ) → bytes ≡ counted key ++ rest → (IsStringOf (kinds_of schema.partition) key → ⊥) → NoHead schema bytes
+no_head_else schema bytes key rest at not other (is, (more, e)) =
+    let same = (counted-same key other rest more (sym at ∙ e)).0 in
+    not (subst (λ (k : List ℕ). IsStringOf (kinds_of schema.partition) k) (sym same) is)
+
+-- ---- frames
+
+pub framed : (bytes c rest v more : List ℕ) → length c < 2 ^ 16 → bytes ≡ counted c ++ rest → length v < 2 ^ 16 → rest ≡ counted v ++ more
+    → IsFrame (1 ∷ bytes) c v
+framed bytes c rest v more m e n f =
+    (m, n, (more, ap (λ t. 1 ∷ t) (e ∙ ap (λ t. counted c ++ t) f) ∙ sym (behind_first c v more)))
+
+-- behind the first byte of a row whose frame is at the front
+behind : (bytes c v rest : List ℕ) → 1 ∷ bytes ≡ row_bytes c v ++ rest → bytes ≡ counted c ++ (counted v ++ rest)
+behind bytes c v rest e = let both : 1 ∷ bytes ≡ 1 ∷ (counted c ++ (counted v ++ rest)) = e ∙ behind_first c v rest in cc
+
+no_end : (bytes : List ℕ) → BeginsEnd (1 ∷ bytes) → ⊥
+no_end bytes (rest, e) = cc
+
+pub short_first : (bytes : List ℕ) → IsCutOff bytes × (length bytes < 65537) → NoFrame (1 ∷ bytes) × (length bytes < 66563)
+short_first bytes (cut, n) = ((λ c v m (k, l, (rest, e)). cut c (counted v ++ rest) k (behind bytes c v rest e), no_end bytes), omega arith)
+
+pub short_second : (bytes c rest : List ℕ) → bytes ≡ counted c ++ rest → length c ≤ 1024 → IsCutOff rest × (length rest < 65537)
+    → NoFrame (1 ∷ bytes) × (length bytes < 66563)
+short_second bytes c rest at m (cut, n) =
+    let long : length bytes ≡ length (counted c ++ rest) = ap length at in
+    let parts : length (c ++ rest) ≡ length c + length rest = length-append c rest in (
+      (λ d v k (l, o, (more, e)). cut v more o (counted-same c d rest (counted v ++ more) (sym at ∙ behind bytes d v more e)).1, no_end bytes),
+      omega arith,
+    )
+
+-- ---- rows
+
+frame_of : (schema : Schema) (bytes c v : List ℕ) → BeginsRow schema bytes c v → (length c ≤ 1024) × IsFrame bytes c v
+frame_of schema bytes c v ((string, value), at) =
+    let short = string_length (kinds_of schema.clustering) c string in
+    (short, (omega arith, value_length schema.value v value, at))
+  where
+    value_length : (kind : ValueType) (v : List ℕ) → IsValueOf kind v → length v < 2 ^ 16
+    value_length Text v is = is.0
+    value_length Blob v is = is
+
+pub no_row : (schema : Schema) (bytes : List ℕ) → NoFrame bytes → NoRow schema bytes
+no_row schema bytes none = (λ c v row. let frame = frame_of schema bytes c v row in none.0 c v frame.0 frame.1, none.1)
+
+pub no_row_else : (schema : Schema) (bytes c v : List ℕ) → IsFrame bytes c v → (IsRow schema c v → ⊥) → (more : List ℕ) → NoRow schema (bytes ++ more)
+no_row_else schema bytes c v (k, l, (rest, at)) not more =
+    let all : bytes ++ more ≡ row_bytes c v ++ (rest ++ more) = ap (λ t. t ++ more) at ∙ append_assoc (row_bytes c v) rest more in (
+      λ d w (is, (behind, e)).
+          let same = row-same c v (rest ++ more) d w behind (sym all ∙ e) in
+          not (subst (λ (x : List ℕ). IsRow schema x v) (sym same.0) (subst (λ (x : List ℕ). IsRow schema d x) (sym same.1) is)),
+      λ (behind, e). no_end _ (behind, sym (all ∙ behind_first c v (rest ++ more)) ∙ e),
+    )
+
+pub frame_short : (bytes rest : List ℕ) → bytes ≡ 1 ∷ rest → NoFrame (1 ∷ rest) × (length rest < 66563) → NoFrame bytes × (length bytes < 66564)
+frame_short bytes rest e (none, n) = (subst NoFrame (sym e) none, (let long : length bytes ≡ length (1 ∷ rest) = ap length e in omega arith))
+
+pub frame_bad : (bytes rest more : List ℕ) → bytes ≡ 1 ∷ rest → NoFrame (1 ∷ (rest ++ more)) → NoFrame (bytes ++ more)
+frame_bad bytes rest more e none = subst NoFrame (sym (ap (λ t. t ++ more) e)) none

@@ -1,0 +1,6 @@
+mod Counted
+mod Found
+mod Frames
+mod Pages
+mod Puts
+mod Words

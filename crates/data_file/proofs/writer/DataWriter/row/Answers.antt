@@ -1,0 +1,7 @@
+use Rattle.std.proofs.Common.{rules}
+use Rattle.data_file.proofs.Puts.{nothing_put}
+use Rattle.data_file.proofs.writer.DataWriter.row.Goals as goal
+
+pub returns-in_err-put_row-clause-written : goal.returns-in_err-put_row-clause-written
+returns-in_err-put_row-clause-written g c =
+    nothing_put (g.K.Store.files c.args.store.now) c.args.self.now.file c.from_residual.result _ _ (search rules)

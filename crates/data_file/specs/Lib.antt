@@ -1,0 +1,7 @@
+pub mod Strings
+pub mod Listing
+pub mod Reading
+pub mod Parsing
+pub mod Held
+pub mod Answers
+pub mod Writing

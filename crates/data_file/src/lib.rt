@@ -1,0 +1,14 @@
+//! The data file of a table: its partitions with their rows, written and read.
+#![tactic(auto)]
+
+mod parse;
+mod reading;
+mod strings;
+mod writer;
+
+pub use parse::{ParseRow, head_in, parse_row};
+pub use reading::{DataError, DataRow, Head, RowAt, read_partition_head, read_row};
+pub use writer::{Counts, DataWriter};
+
+#[cfg(test)]
+mod tests;

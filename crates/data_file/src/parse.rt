@@ -1,0 +1,148 @@
+ghost use Rattle.std.specs.Prelude.{◌≡◌, ◌<◌, ◌≤◌, ◌+◌, ◌++◌, ◌^◌, List, ℕ, length, IfOk, IfSome, IsNone, MatchOption, Err, ◌∷◌, true, false};
+ghost use Rattle.key_types.specs.Kinds.{kinds_of, more, int, end};
+ghost use Rattle.data_file.specs.Listing.{counted};
+ghost use Rattle.data_file.specs.Reading.{BeginsEnd, BeginsHead, IsRowAt, NoHead, NoRow};
+ghost use Rattle.data_file.specs.Parsing.{IsCutOff, IsFrame, NoFrame};
+
+use crate::reading::{DataRow, RowAt};
+use crate::strings::{is_partition_string, is_row};
+use key_types::{ByteList, NoMemory, Schema};
+use std::alloc::Global;
+
+/// Why bytes of a data file were not read as a row or an end.
+#[derive(Clone, Copy, Debug, PartialEq, Eq)]
+pub enum ParseRow {
+    /// There are too few bytes to tell.
+    Short,
+    /// Whatever bytes follow, no row and no end of a partition begins here.
+    Bad,
+    /// Memory ran out.
+    NoMemory,
+}
+
+impl From<NoMemory> for ParseRow {
+    ghost use Rattle.std.specs.Prelude.{◌≡◌};
+    ghost use Rattle.data_file.specs.declared.parse.ParseRow.TheVariants.{NoMemory};
+
+    ghost from_gives = { λ _ e. e ≡ NoMemory };
+
+    fn from(_e: NoMemory) -> ParseRow {
+        ParseRow::NoMemory
+    }
+}
+
+/// The bytes that a number in two bytes counts, and what stands behind them; `None` where they are cut off.
+fn counted(bytes: &[u8]) -> Option<(&[u8], &[u8])>
+    ensures some { IfSome result (λ p. (length p.0.now < 2 ^ 16) × (bytes.now ≡ counted p.0.now ++ p.1.now)) }
+    ensures none { IsNone result → IsCutOff bytes.now × (length bytes.now < 65537) }
+{
+    match bytes {
+        [high, low, rest @ ..] => {
+            let count = usize::from(*high) * 256 + usize::from(*low);
+            if count <= rest.len() {
+                Some(rest.split_at(count))
+            } else {
+                None
+            }
+        }
+        _ => None,
+    }
+}
+
+/// The string of the partition whose head the bytes begin with, where they begin with one.
+pub fn head_in<'b>(schema: &Schema, bytes: &'b [u8]) -> Option<&'b [u8]>
+    requires { kinds_of schema.now.partition ≡ more int end }
+    ensures some { IfSome result (λ key. BeginsHead schema.now bytes.now key.now) }
+    ensures none { IsNone result → NoHead schema.now bytes.now }
+{
+    let (key, _) = counted(bytes)?;
+    if !is_partition_string(schema, key) {
+        return None;
+    }
+    Some(key)
+}
+
+/// Whether the bytes begin with a count of more than 1,024 bytes.
+fn counts_too_many(bytes: &[u8]) -> bool
+    ensures long { result ≡ true → (item rest more : List ℕ) → length item ≤ 1024 → bytes.now ++ more ≡ counted item ++ rest → ⊥ }
+    ensures fits { result ≡ false → (item rest : List ℕ) → bytes.now ≡ counted item ++ rest → length item ≤ 1024 }
+{
+    match bytes {
+        [high, low, ..] => usize::from(*high) * 256 + usize::from(*low) > 1024,
+        _ => false,
+    }
+}
+
+/// The clustering and the value of a row, behind its first byte.
+fn row_frame(bytes: &[u8]) -> Result<(&[u8], &[u8]), ParseRow>
+    ensures row { IfOk result (λ p. IsFrame (1 ∷ bytes.now) p.0.now p.1.now) }
+    ensures short { result ≡ Err ParseRow.Short → NoFrame (1 ∷ bytes.now) × (length bytes.now < 66563) }
+    ensures bad { result ≡ Err ParseRow.Bad → (more : List ℕ) → NoFrame (1 ∷ (bytes.now ++ more)) }
+    ensures memory { ¬ (result ≡ Err ParseRow.NoMemory) }
+{
+    if counts_too_many(bytes) {
+        return Err(ParseRow::Bad);
+    }
+    let Some((clustering, rest)) = counted(bytes) else {
+        return Err(ParseRow::Short);
+    };
+    match counted(rest) {
+        Some((value, _)) => Ok((clustering, value)),
+        None => Err(ParseRow::Short),
+    }
+}
+
+/// The clustering and the value of the row that the bytes begin with, as far as their lengths say; `None` for an end.
+fn frame(bytes: &[u8]) -> Result<Option<(&[u8], &[u8])>, ParseRow>
+    ensures row { IfOk result (λ found. MatchOption found (BeginsEnd bytes.now) (λ p. IsFrame bytes.now p.0.now p.1.now)) }
+    ensures short { result ≡ Err ParseRow.Short → NoFrame bytes.now × (length bytes.now < 66564) }
+    ensures bad { result ≡ Err ParseRow.Bad → (more : List ℕ) → NoFrame (bytes.now ++ more) }
+    ensures memory { ¬ (result ≡ Err ParseRow.NoMemory) }
+{
+    let Some((first, rest)) = bytes.split_first() else {
+        return Err(ParseRow::Short);
+    };
+    match *first {
+        0 => Ok(None),
+        1 => match row_frame(rest) {
+            Ok(found) => Ok(Some(found)),
+            Err(e) => Err(e),
+        },
+        _ => Err(ParseRow::Bad),
+    }
+}
+
+/// The row or the end of a partition with which the bytes of a data file begin, from the position `at` on.
+pub fn parse_row(alloc: Global, schema: &Schema, bytes: &[u8], at: u64) -> Result<RowAt, ParseRow>
+    requires strings { kinds_of schema.now.clustering ≡ end }
+    requires place { at < 2 ^ 62 }
+    ensures row { IfOk result (IsRowAt schema.now bytes.now at) }
+    ensures short { result ≡ Err ParseRow.Short → NoRow schema.now bytes.now × (length bytes.now < 66564) }
+    ensures bad { result ≡ Err ParseRow.Bad → (more : List ℕ) → NoRow schema.now (bytes.now ++ more) }
+{
+    let found = match frame(bytes) {
+        Ok(found) => found,
+        Err(e) => return Err(e),
+    };
+    let Some((clustering, value)) = found else {
+        return Ok(RowAt::End(at + 1));
+    };
+    if !is_row(schema, clustering, value) {
+        return Err(ParseRow::Bad);
+    }
+    let end = at + 5 + clustering.len() as u64 + value.len() as u64;
+    Ok(RowAt::Row(data_row(alloc, clustering, value, end)?))
+}
+
+fn data_row(alloc: Global, clustering: &[u8], value: &[u8], end: u64) -> Result<DataRow, NoMemory>
+    ensures { IfOk result (λ row. row ≡ record { clustering = clustering.now; value = value.now; end = end }) }
+{
+    let mut row = DataRow {
+        clustering: ByteList::new(alloc),
+        value: ByteList::new(alloc),
+        end,
+    };
+    row.clustering.extend(clustering)?;
+    row.value.extend(value)?;
+    Ok(row)
+}
