@@ -1,0 +1,18 @@
+ghost use Rattle.std.specs.Prelude.{◌≡◌, ◌↔◌, IsTrue};
+ghost use Rattle.byte_order.specs.Strings.{byte_order, IsPrefix};
+
+use std::cmp::Ordering;
+
+/// The order of two byte strings.
+pub fn compare_bytes(a: &[u8], b: &[u8]) -> Ordering
+    ensures { result ≡ byte_order a.now b.now }
+{
+    a.cmp(b)
+}
+
+/// Whether `a` is a prefix of `b`. Each string is one of itself.
+pub fn is_prefix(a: &[u8], b: &[u8]) -> bool
+    ensures { IsTrue result ↔ IsPrefix a.now b.now }
+{
+    b.starts_with(a)
+}
