@@ -3,4 +3,5 @@ mod Found
 mod Frames
 mod Pages
 mod Puts
+mod Unique
 mod Words

@@ -5,3 +5,4 @@ pub mod Parsing
 pub mod Held
 pub mod Answers
 pub mod Writing
+pub mod Laws

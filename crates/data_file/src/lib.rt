@@ -1,11 +1,13 @@
 //! The data file of a table: its partitions with their rows, written and read.
 #![tactic(auto)]
 
+mod laws;
 mod parse;
 mod reading;
 mod strings;
 mod writer;
 
+pub use laws::law_listing;
 pub use parse::{ParseRow, head_in, parse_row};
 pub use reading::{DataError, DataRow, Head, RowAt, read_partition_head, read_row};
 pub use writer::{Counts, DataWriter};

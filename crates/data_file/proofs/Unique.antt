@@ -1,0 +1,76 @@
+-- The bytes of a data file spell one list of partitions.
+use Rattle.std.proofs.Common.{◌≡◌, ◌∙◌, ℕ, List, [], ◌∷◌, ◌++◌, Option, None, Some, refl, sym, ap, append_assoc}
+use Rattle.key_types.specs.declared.schema.Schema.{Schema}
+use Rattle.key_types.specs.declared.schema.ValueType.{ValueType}
+use Rattle.data_file.specs.Listing.{ArePartitions, IsFixed, Lists, Partition, Row, counted, data_bytes, end_bytes, fixed_bytes, partition_bytes, row_bytes, rows_bytes}
+use Rattle.data_file.proofs.Counted.{behind_first, counted-same}
+
+row_front : (c v r d w s : List ℕ) → row_bytes c v ++ r ≡ row_bytes d w ++ s → (c ≡ d) × (v ≡ w) × (r ≡ s)
+row_front c v r d w s e =
+    let both : 1 ∷ (counted c ++ (counted v ++ r)) ≡ 1 ∷ (counted d ++ (counted w ++ s)) = sym (behind_first c v r) ∙ e ∙ behind_first d w s in
+    let tails : counted c ++ (counted v ++ r) ≡ counted d ++ (counted w ++ s) = cc in
+    let first = counted-same c d (counted v ++ r) (counted w ++ s) tails in
+    let second = counted-same v w r s first.1 in
+    (first.0, second.0, second.1)
+
+-- a row and more behind it, grouped
+grouped : (row : Row) (rows : List Row) (t : List ℕ) → rows_bytes (row ∷ rows) ++ t ≡ row_bytes row.clustering row.value ++ (rows_bytes rows ++ t)
+grouped row rows t = append_assoc (row_bytes row.clustering row.value) (rows_bytes rows) t
+
+-- rows that end with an end mark
+rows_front : (rows others : List Row) (t u : List ℕ) → rows_bytes rows ++ 0 ∷ t ≡ rows_bytes others ++ 0 ∷ u → (rows ≡ others) × (t ≡ u)
+rows_front [] [] t u e = (refl, cc)
+rows_front [] (row ∷ rows) t u e = let apart : 0 ∷ t ≡ row_bytes row.clustering row.value ++ (rows_bytes rows ++ 0 ∷ u) = e ∙ grouped row rows (0 ∷ u) in cc
+rows_front (row ∷ rows) [] t u e = let apart : row_bytes row.clustering row.value ++ (rows_bytes rows ++ 0 ∷ t) ≡ 0 ∷ u = sym (grouped row rows (0 ∷ t)) ∙ e in cc
+rows_front (row ∷ rows) (other ∷ others) t u e =
+    let fronts = row_front row.clustering row.value (rows_bytes rows ++ 0 ∷ t) other.clustering other.value (rows_bytes others ++ 0 ∷ u)
+    (sym (grouped row rows (0 ∷ t)) ∙ e ∙ grouped other others (0 ∷ u)) in
+    let rest = rows_front rows others t u fronts.2 in
+    let same : row ≡ other = λ i. record { clustering = fronts.0 i; value = fronts.1 i } in
+    let same_rest : rows ≡ others = rest.0 in
+    (λ i. same i ∷ same_rest i, rest.1)
+
+-- the static part
+fixed_front : (static : Option ValueType) (a b : Option (List ℕ)) (r s : List ℕ) → IsFixed static a → IsFixed static b
+    → fixed_bytes static a ++ r ≡ fixed_bytes static b ++ s → (a ≡ b) × (r ≡ s)
+fixed_front None None None r s f g e = (refl, e)
+fixed_front None None (Some y) r s f g e = absurd g
+fixed_front None (Some x) b r s f g e = absurd f
+fixed_front (Some type) None None r s f g e = (refl, cc)
+fixed_front (Some type) None (Some y) r s f g e = cc
+fixed_front (Some type) (Some x) None r s f g e = cc
+fixed_front (Some type) (Some x) (Some y) r s f g e =
+    let tails : counted x ++ r ≡ counted y ++ s = cc in
+    let same = counted-same x y r s tails in
+    (ap Some same.0, same.1)
+
+parts : (static : Option ValueType) (p : Partition) (t : List ℕ)
+    → partition_bytes static p ++ t ≡ counted p.key ++ (fixed_bytes static p.fixed ++ (rows_bytes p.rows ++ 0 ∷ t))
+parts static p t =
+    append_assoc (counted p.key) (fixed_bytes static p.fixed ++ (rows_bytes p.rows ++ end_bytes)) t
+    ∙ ap (λ x. counted p.key ++ x) (append_assoc (fixed_bytes static p.fixed) (rows_bytes p.rows ++ end_bytes) t
+    ∙ ap (λ x. fixed_bytes static p.fixed ++ x) (append_assoc (rows_bytes p.rows) end_bytes t))
+
+partition_front : (static : Option ValueType) (p q : Partition) (t u : List ℕ) → IsFixed static p.fixed → IsFixed static q.fixed
+    → partition_bytes static p ++ t ≡ partition_bytes static q ++ u → (p ≡ q) × (t ≡ u)
+partition_front static p q t u f g e =
+    let heads = counted-same p.key q.key (fixed_bytes static p.fixed ++ (rows_bytes p.rows ++ 0 ∷ t)) (fixed_bytes static q.fixed ++ (rows_bytes q.rows ++ 0 ∷ u))
+    (sym (parts static p t) ∙ e ∙ parts static q u) in
+    let fixed = fixed_front static p.fixed q.fixed (rows_bytes p.rows ++ 0 ∷ t) (rows_bytes q.rows ++ 0 ∷ u) f g heads.1 in
+    let rows = rows_front p.rows q.rows t u fixed.1 in
+    let same : p ≡ q = λ i. record { key = heads.0 i; fixed = fixed.0 i; rows = rows.0 i } in
+    (same, rows.1)
+
+data_front : (schema : Schema) (ps qs : List Partition) → ArePartitions schema ps → ArePartitions schema qs
+    → data_bytes schema.static_value ps ≡ data_bytes schema.static_value qs → ps ≡ qs
+data_front schema [] [] f g e = refl
+data_front schema [] (q ∷ qs) f g e = cc
+data_front schema (p ∷ ps) [] f g e = cc
+data_front schema (p ∷ ps) (q ∷ qs) f g e =
+    let first = partition_front schema.static_value p q (data_bytes schema.static_value ps) (data_bytes schema.static_value qs) f.1 g.1 e in
+    let same : p ≡ q = first.0 in
+    let rest : ps ≡ qs = data_front schema ps qs f.3 g.3 first.1 in
+    λ i. same i ∷ rest i
+
+pub listing_unique : (schema : Schema) (bytes : List ℕ) (ps qs : List Partition) → Lists schema bytes ps → Lists schema bytes qs → ps ≡ qs
+listing_unique schema bytes ps qs (e, f) (d, g) = data_front schema ps qs f g (sym e ∙ d)
