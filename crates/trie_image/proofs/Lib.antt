@@ -14,3 +14,7 @@ pub mod Tails
 pub mod Opening
 pub mod Entries
 pub mod Nodes
+pub mod BodyLemmas
+pub mod Costs
+pub mod BodyLengths
+pub mod StoreShape

@@ -1,5 +1,5 @@
 -- The laws of the trie: what holds of paths, places and stores in every image. A well-formed image is one.
-use Rattle.std.specs.Prelude.{◌≡◌, ◌≢◌, ◌⊎◌, ℕ, ◌+◌, ◌*◌, ◌^◌, ◌<◌, ◌≤◌, ◌/◌, ◌%◌, ◌==◌, List, length, slice_get, slice_index, slice_set, replicate, Option, Some, None}
+use Rattle.std.specs.Prelude.{◌≡◌, ◌≢◌, ◌⊎◌, ℕ, ◌+◌, ◌*◌, ◌^◌, ◌<◌, ◌≤◌, ◌/◌, ◌%◌, ◌==◌, List, length, slice_get, slice_index, slice_set, replicate, Option, Some, None, [], ◌∷◌, ◌++◌}
 use Rattle.trie_image.specs.declared.Place.{Place}
 use Rattle.trie_image.specs.declared.Advance.{Advance}
 use Rattle.trie_image.specs.declared.Advance.TheVariants.{On, Found, Absent}
@@ -15,6 +15,10 @@ use Rattle.trie_image.specs.Cell.{IsImage}
 use Rattle.trie_image.specs.Puts.{IsRecOf}
 use Rattle.trie_image.specs.WellFormed.{IsWellFormed, opening_ledger}
 use Rattle.trie_image.specs.Same.{IsSame}
+use Rattle.trie_image.specs.declared.exit.Exit.{Exit}
+use Rattle.trie_image.specs.declared.StoreKind.TheVariants.{Prepare, Publish, Finish}
+use Rattle.trie_image.specs.declared.WordStore.{WordStore}
+use Rattle.trie_image.specs.Stores.{cost, rest_of, body_words, store_at, prepares, stores_of}
 use Rattle.trie_image.specs.Place.{start_place, IsPlace, place_sees, next_word_of, outcome_of, measure_of}
 
 -- each pointer has at most one path
@@ -65,3 +69,28 @@ LawFresh = (w : List ℕ) (g : Ledger) (cells i v : ℕ) → IsImage w g cells �
 abbrev pub LawFreeSlot : Type 0
 LawFreeSlot = (w : List ℕ) (g : Ledger) (cells c n p : ℕ) (q : List ℕ) → IsImage w g cells → owner g c ≡ Some (SparseCell q) → n < 6 → ((b : ℕ) → slot_at (word_of w c 3) b ≢ Some n) → p < 2 ^ 32
     → IsSame w (slice_set w (4 * c + n / 2) (with_half_of (word_of w c (n / 2)) (n % 2 == 1) p)) g
+
+-- the words of a put's new cells, four for each cell, are at most those of its cost
+abbrev pub LawCost : Type 0
+LawCost = (w : List ℕ) (used number : ℕ) (key value : List ℕ) (e : Exit) (b : ℕ) → length (body_words w used number value (rest_of key e.meets e.taken) e b) ≤ 4 * cost (length key) (length value)
+
+-- each is a Prepare store
+abbrev pub ArePrepares : List WordStore → Type 0
+ArePrepares [] = Unit {0}
+ArePrepares (s ∷ ss) = (s.kind ≡ Prepare) × ArePrepares ss
+
+-- Prepare stores, one Publish, and the Finish
+pub record HasShape (stores : List WordStore) (finish : WordStore) : Type 0 where
+  pub front : List WordStore
+  pub publish : WordStore
+  pub all : stores ≡ front ++ publish ∷ finish ∷ []
+  pub prepared : ArePrepares front
+  pub published : publish.kind ≡ Publish
+
+-- the stores of a put come in this order, and the Finish stores the put's number in word 0
+abbrev pub LawShape : Type 0
+LawShape = (w : List ℕ) (used : ℕ) (key value : List ℕ) → HasShape (stores_of w used key value) (store_at 0 (slice_index w 0 + 1) Finish)
+
+-- a store into a new cell, beyond those taken, is one that no pointer with a path reads
+abbrev pub LawPrepared : Type 0
+LawPrepared = (w : List ℕ) (g : Ledger) (cells at n : ℕ) (ws : List ℕ) (s : WordStore) → IsImage w g cells → 4 * length g.owners ≤ at → slice_get (prepares at ws) n ≡ Some s → IsSame w (slice_set w s.word s.value) g

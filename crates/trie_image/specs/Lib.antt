@@ -7,4 +7,7 @@ pub mod WellFormed
 pub mod Place
 pub mod Same
 pub mod Relink
+pub mod Exit
+pub mod Body
+pub mod Stores
 pub mod Laws

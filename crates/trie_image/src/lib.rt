@@ -1,15 +1,20 @@
 //! The trie in memory as an image: a list of 64-bit words, four for each cell of `cell_layout`.
 //!
 //! An image keeps the puts of a table's shard. A walk loads one word at a time and goes from place to place; between two
-//! loads the words may change. What an image means, which images are well formed and what each store of a put changes
-//! is defined in `specs/` and proved here, without threads. Made after Apache Cassandra's InMemoryTrie.md.
+//! loads the words may change. What an image means, which images are well formed and what stores of a put change is
+//! defined in `specs/` and proved here, without threads; `plan` makes the list of a put's stores. Made after Apache
+//! Cassandra's InMemoryTrie.md.
 #![tactic(auto)]
 
-ghost use Rattle.trie_image.specs.Laws.{LawPaths, LawClosed, LawFalls, LawOpening, LawStart, LawAdvance, LawInside, LawSame, LawFresh, LawFreeSlot};
+ghost use Rattle.trie_image.specs.Laws.{LawPaths, LawClosed, LawFalls, LawOpening, LawStart, LawAdvance, LawInside, LawCost, LawShape, LawPrepared, LawSame, LawFresh, LawFreeSlot};
 ghost use Rattle.trie_image.specs.Relink.{LawRelink};
 
+use key_types::ListOf;
 use std::collections::LinkedList;
 
+mod body;
+pub mod exit;
+pub mod plan;
 pub mod walk;
 
 /// Which word a place of a walk loads next, and what for.
@@ -63,6 +68,28 @@ pub enum Advance {
     /// The walk ends without a record.
     Absent,
 }
+
+/// What a store of a put is.
+#[derive(Clone, Copy, PartialEq, Eq, Debug)]
+pub enum StoreKind {
+    /// It writes where no reader looks yet.
+    Prepare,
+    /// It makes the put's record reachable.
+    Publish,
+    /// It counts the put in word 0.
+    Finish,
+}
+
+/// One store of a put: the word of the image and its new value.
+#[derive(Clone, Copy, PartialEq, Eq, Debug)]
+pub struct WordStore {
+    pub word: u32,
+    pub value: u64,
+    pub kind: StoreKind,
+}
+
+/// The stores of a put in their order.
+pub type WordList = ListOf<WordStore>;
 
 /// A put and the first cell of its record. Contracts speak of it; no value of it is made.
 pub struct Put {
@@ -131,6 +158,21 @@ pub fn law_advance()
 /// The word that a place loads lies in the image.
 pub fn law_inside()
     ensures { LawInside }
+{}
+
+/// A put takes at most its cost of new cells, which is `cells of the record + ceil(key length / 28) + 16`.
+pub fn law_cost()
+    ensures { LawCost }
+{}
+
+/// The stores of a put are Prepare stores, one Publish and one Finish, which stores the put's number in word 0.
+pub fn law_shape()
+    ensures { LawShape }
+{}
+
+/// A Prepare store into a new cell of a put is one that no pointer with a path reads.
+pub fn law_prepared()
+    ensures { LawPrepared }
 {}
 
 /// A store that no pointer with a path reads keeps the image, its places, and what they and all such pointers see.
