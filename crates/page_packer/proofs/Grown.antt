@@ -42,7 +42,7 @@ first_bytes : (c b : ℕ) (x k : List ℕ) → IsBelow (c ∷ x) (b ∷ k) → (
 first_bytes c b x k h =
     elim (first_by (nat_cmp c b) (slice_cmp nat_cmp x k) h) as (λ _. (c < b) ⊎ ((c ≡ b) × IsBelow x k)) [ inl less ↦ inl (less_than c b less) | inr same ↦ inr (equal_to c b same.0, same.1) ]
 
-never_below : (x : List ℕ) → IsBelow x [] → ⊥
+pub never_below : (x : List ℕ) → IsBelow x [] → ⊥
 never_below [] h = cc
 never_below (a ∷ x) h = cc
 

@@ -65,7 +65,7 @@ mutual
   weights_count end s = omega arith
   weights_count (branch b t bs) s = let h = weight_count t s.0 in let k = weights_count bs s.2 in omega (arith, h, k)
 
-zeros_len : (n : ℕ) → length (zeros n) ≡ n
+pub zeros_len : (n : ℕ) → length (zeros n) ≡ n
 zeros_len zero = refl
 zeros_len (suc n) = ap suc (zeros_len n)
 
@@ -113,7 +113,7 @@ light_len t p s h =
     let room = gap p (weight t) in
     omega (arith, length-append (zeros room) (packed t (p + room)).bytes, zeros_len room, gap_small p (weight t), packed_len t (p + room) (light_means t h), weight_count t s)
 
-heavy_len : (q : List ℕ) (bs : Branches) (p : ℕ) → Sound (tree q bs) → length (lay_under bs p).bytes + 12 * branches bs ≤ 30 * counts bs → counts bs ≤ 2 ^ 30
+heavy_len : (q : List ℕ) (bs : Branches) (p : ℕ) → Sound (tree q bs) → length (lay_under bs p).bytes + 12 * branches bs ≤ 30 * counts bs → counts bs ≤ 2 ^ 31
     → length (closed_in_page q (lay_under bs p) (p + length (lay_under bs p).bytes)).bytes ≤ 30 * (counts bs + 1) - 12
 heavy_len q bs p s h small =
     let under = lay_under bs p in
@@ -129,7 +129,7 @@ heavy_len q bs p s h small =
     omega (arith, h, a, b, room, length-append (under.bytes ++ zeros more) moved, length-append under.bytes (zeros more), zeros_len more)
 
 mutual
-  pub lay_len : (t : Tree) (p : ℕ) → Sound t → count t ≤ 2 ^ 30 + 1 → length (lay t p).bytes ≤ 30 * count t - 12
+  pub lay_len : (t : Tree) (p : ℕ) → Sound t → count t ≤ 2 ^ 31 → length (lay t p).bytes ≤ 30 * count t - 12
   lay_len (tree q bs) p s small =
       let t = tree q bs in
       let room = gap p (weight t) in
@@ -137,7 +137,7 @@ mutual
       chosen_len (light t) (shifted room (packed t (p + room))) (closed_in_page q under (p + length under.bytes)) (30 * count t - 12) (λ h. light_len t p s h)
       (heavy_len q bs p s (lay_under_len bs p s.2 (omega arith)) (omega arith))
 
-  pub lay_under_len : (bs : Branches) (p : ℕ) → SoundUnder bs → counts bs ≤ 2 ^ 30 → length (lay_under bs p).bytes + 12 * branches bs ≤ 30 * counts bs
+  pub lay_under_len : (bs : Branches) (p : ℕ) → SoundUnder bs → counts bs ≤ 2 ^ 31 → length (lay_under bs p).bytes + 12 * branches bs ≤ 30 * counts bs
   lay_under_len end p s small = omega arith
   lay_under_len (branch b t bs) p s small =
       let first = lay t p in

@@ -66,7 +66,7 @@ far_is n cs =
     ap (λ c. far_outline n c (first_letter cs) (last_letter cs)) (sym (length-map cs letter_of)) ∙ ap (λ f. far_outline n (length (map letter_of cs)) f (last_letter cs)) (first_is cs)
     ∙ ap (λ l. far_outline n (length (map letter_of cs)) (first_of (map letter_of cs)) l) (last_is cs)
 
-seen_letters : (bs : Branches) (cs : List Stood) (at : ℕ) → SameLetters bs cs → map letter_of (map (seen_from at) cs) ≡ letters bs
+pub seen_letters : (bs : Branches) (cs : List Stood) (at : ℕ) → SameLetters bs cs → map letter_of (map (seen_from at) cs) ≡ letters bs
 seen_letters end [] at h = refl
 seen_letters end (c ∷ cs) at h = absurd h
 seen_letters (branch b t bs) [] at h = absurd h
@@ -229,7 +229,7 @@ last_below low at (branch b t end) (c ∷ d ∷ cs) a s = absurd s.1
 last_below low at (branch b t (branch b' t' bs)) (c ∷ []) a s = absurd s.1
 last_below low at (branch b t (branch b' t' bs)) (c ∷ d ∷ cs) a s = last_below (b + 1) at (branch b' t' bs) (d ∷ cs) a.2 s.1
 
-node_within : (q : List ℕ) (bs : Branches) (cs : List Stood) (at : ℕ) → length q ≤ 7 → Ascend 0 bs → SameLetters bs cs → length (node_at_place q cs at) ≤ 4096
+pub node_within : (q : List ℕ) (bs : Branches) (cs : List Stood) (at : ℕ) → length q ≤ 7 → Ascend 0 bs → SameLetters bs cs → length (node_at_place q cs at) ≤ 4096
 node_within q bs cs at short a s =
     let parts : Parts = record { payload = q; children = map (seen_from at) cs } in
     omega (arith, size_is_length parts, size_within parts short (omega (arith, few 0 at bs cs (omega arith) a s)) (last_below 0 at bs cs a s))

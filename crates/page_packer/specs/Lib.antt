@@ -1,4 +1,7 @@
 pub mod Tree
+pub mod Boxes
+pub mod Work
+pub mod Packing
 pub mod Layout
 pub mod Sound
 pub mod Pages
