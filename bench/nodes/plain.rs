@@ -201,36 +201,128 @@ fn bits(node: &[u8], at: usize, width: usize) -> u64 {
     ((number >> (8 * end - at - width)) as u64) & (u64::MAX >> (64 - width))
 }
 
-/// The distance of the child under a byte, in the node that begins with the bytes.
-fn child(node: &[u8], byte: u8) -> Option<u64> {
-    let (shape, width) = KINDS[usize::from(node[0] >> 4)];
-    match shape {
-        Shape::Leaf => None,
-        Shape::Short => (node[(4 + width) / 8] == byte).then(|| bits(node, 4, width)),
-        Shape::Single => (node[1] == byte).then(|| bits(node, 16, width)),
-        Shape::Sparse => {
-            let count = usize::from(node[1]);
-            let place = node[2..2 + count].binary_search(&byte).ok()?;
-            Some(bits(node, 16 + 8 * count + place * width, width))
-        }
-        Shape::Dense => {
-            let place = byte.checked_sub(node[1]).filter(|place| *place <= node[2])?;
-            Some(bits(node, 24 + usize::from(place) * width, width)).filter(|distance| *distance > 0)
+/// A node that was parsed: the bytes from it on, its type and its number of places.
+struct View<'a> {
+    bytes: &'a [u8],
+    shape: Shape,
+    width: usize,
+    places: usize,
+}
+
+enum Refusal {
+    PastPage,
+    BadOrder,
+    BadPointer,
+    BadPayload,
+}
+
+impl View<'_> {
+    fn first_bit(&self) -> usize {
+        match self.shape {
+            Shape::Short => 4,
+            Shape::Sparse => 16 + 8 * self.places,
+            Shape::Dense => 24,
+            _ => 16,
         }
     }
+
+    fn distance(&self, place: usize) -> u64 {
+        bits(self.bytes, self.first_bit() + place * self.width, self.width)
+    }
+
+    fn payload_len(&self) -> usize {
+        let low = usize::from(self.bytes[0] & 15);
+        if self.shape == Shape::Short || low >= 8 { 0 } else { low }
+    }
+
+    fn body(&self) -> usize {
+        match self.shape {
+            Shape::Dense => 3 + (self.places * self.width + 7) / 8,
+            _ => body((self.shape, self.width), self.places, self.places),
+        }
+    }
+
+    fn in_order(&self) -> bool {
+        match self.shape {
+            Shape::Sparse => self.places > 0 && self.bytes[2..2 + self.places].windows(2).all(|pair| pair[0] < pair[1]),
+            Shape::Dense => usize::from(self.bytes[1]) + self.places <= 256,
+            _ => true,
+        }
+    }
+
+    fn points_back(&self, position: u64) -> bool {
+        (0..self.places).all(|place| {
+            let distance = self.distance(place);
+            let inner = self.shape == Shape::Dense && place > 0 && place + 1 < self.places;
+            (inner || distance > 0) && distance <= position
+        })
+    }
+
+    fn payload_stands(&self) -> bool {
+        let low = self.bytes[0] & 15;
+        match self.shape {
+            Shape::Leaf => low > 0 && low < 8,
+            Shape::Short => true,
+            _ => low < 8,
+        }
+    }
+
+    fn find(&self, byte: u8) -> Option<u64> {
+        match self.shape {
+            Shape::Leaf => None,
+            Shape::Short => (self.bytes[(4 + self.width) / 8] == byte).then(|| self.distance(0)),
+            Shape::Single => (self.bytes[1] == byte).then(|| self.distance(0)),
+            Shape::Sparse => self.bytes[2..2 + self.places].binary_search(&byte).ok().map(|place| self.distance(place)),
+            Shape::Dense => {
+                let place = usize::from(byte.checked_sub(self.bytes[1])?);
+                Some(place).filter(|place| *place < self.places).map(|place| self.distance(place)).filter(|distance| *distance > 0)
+            }
+        }
+    }
+}
+
+/// The node that begins at a place of a page, with the refusals of the format in their order.
+fn parse_node(page: &[u8], at: usize, position: u64) -> Result<View<'_>, Refusal> {
+    let bytes = &page[at..];
+    let (shape, width) = KINDS[usize::from(bytes[0] >> 4)];
+    let byte = |i: usize| usize::from(bytes.get(i).copied().unwrap_or(0));
+    let places = match shape {
+        Shape::Leaf => 0,
+        Shape::Short | Shape::Single => 1,
+        Shape::Sparse => byte(1),
+        Shape::Dense => byte(2) + 1,
+    };
+    let view = View { bytes, shape, width, places };
+    if bytes.len() < view.body() + view.payload_len() {
+        return Err(Refusal::PastPage);
+    }
+    if !view.in_order() {
+        return Err(Refusal::BadOrder);
+    }
+    if !view.points_back(position) {
+        return Err(Refusal::BadPointer);
+    }
+    if !view.payload_stands() {
+        return Err(Refusal::BadPayload);
+    }
+    Ok(view)
+}
+
+fn node_at(file: &[u8], position: u64) -> Option<View<'_>> {
+    let start = (position / PAGE * PAGE) as usize;
+    let page = &file[start..file.len().min(start + PAGE as usize)];
+    parse_node(page, (position % PAGE) as usize, position).ok()
 }
 
 fn find(file: &[u8], root: u64, key: &[u8]) -> bool {
     let mut at = root;
     for byte in key {
-        let end = file.len().min((at / PAGE * PAGE + PAGE) as usize);
-        match child(&file[at as usize..end], *byte) {
+        match node_at(file, at).and_then(|node| node.find(*byte)) {
             Some(distance) => at -= distance,
             None => return false,
         }
     }
-    let head = file[at as usize];
-    !matches!(head >> 4, 1 | 3) && head & 15 != 0
+    node_at(file, at).is_some_and(|node| node.payload_len() > 0)
 }
 
 /// Key number i: ascending, of 6 to 20 bytes.
