@@ -1,11 +1,12 @@
 ghost use Rattle.std.specs.Prelude.{◌≡◌, ◌↔◌, IsTrue};
-ghost use Rattle.byte_order.specs.Strings.{byte_order, IsPrefix};
+ghost use Rattle.byte_order.specs.Strings.{IsPrefix};
+ghost use Rattle.key_types.specs.Table.{string_cmp};
 
 use std::cmp::Ordering;
 
 /// The order of two byte strings.
 pub fn compare_bytes(a: &[u8], b: &[u8]) -> Ordering
-    ensures { result ≡ byte_order a.now b.now }
+    ensures { result ≡ string_cmp a.now b.now }
 {
     a.cmp(b)
 }
