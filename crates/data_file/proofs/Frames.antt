@@ -1,7 +1,7 @@
 -- What the parts of a row say of its frame.
 use Rattle.std.proofs.Common.{◌≡◌, ◌∙◌, ℕ, ◌+◌, ◌<◌, ◌≤◌, ◌^◌, List, ◌∷◌, ◌++◌, length, arith, ap, sym, subst, append_assoc, length-append}
 use Rattle.key_types.specs.Kinds.{kinds_of}
-use Rattle.key_types.specs.declared.schema.Schema.{Schema}
+use Rattle.data_file.specs.Types.{Types}
 use Rattle.key_types.specs.declared.schema.ValueType.{ValueType}
 use Rattle.key_types.specs.declared.schema.ValueType.TheVariants.{Text, Blob}
 use Rattle.data_file.specs.Strings.{IsStringOf, IsValueOf}
@@ -13,15 +13,15 @@ use Rattle.data_file.proofs.Words.{string_length}
 
 -- ---- heads
 
-pub no_head_cut : (schema : Schema) (bytes : List ℕ) → IsCutOff bytes → NoHead schema bytes
-no_head_cut schema bytes cut key (is, (rest, e)) =
-    let short = string_length (kinds_of schema.partition) key is in
+pub no_head_cut : (types : Types) (bytes : List ℕ) → IsCutOff bytes → NoHead types bytes
+no_head_cut types bytes cut key (is, (rest, e)) =
+    let short = string_length types.partition key is in
     cut key rest (omega arith) e
 
-pub no_head_else : (schema : Schema) (bytes key rest : List ℕ) → bytes ≡ counted key ++ rest → (IsStringOf (kinds_of schema.partition) key → ⊥) → NoHead schema bytes
-no_head_else schema bytes key rest at not other (is, (more, e)) =
+pub no_head_else : (types : Types) (bytes key rest : List ℕ) → bytes ≡ counted key ++ rest → (IsStringOf types.partition key → ⊥) → NoHead types bytes
+no_head_else types bytes key rest at not other (is, (more, e)) =
     let same = (counted-same key other rest more (sym at ∙ e)).0 in
-    not (subst (λ (k : List ℕ). IsStringOf (kinds_of schema.partition) k) (sym same) is)
+    not (subst (λ (k : List ℕ). IsStringOf types.partition k) (sym same) is)
 
 -- ---- frames
 
@@ -51,24 +51,24 @@ short_second bytes c rest at m (cut, n) =
 
 -- ---- rows
 
-frame_of : (schema : Schema) (bytes c v : List ℕ) → BeginsRow schema bytes c v → (length c ≤ 1024) × IsFrame bytes c v
-frame_of schema bytes c v ((string, value), at) =
-    let short = string_length (kinds_of schema.clustering) c string in
-    (short, (omega arith, value_length schema.value v value, at))
+frame_of : (types : Types) (bytes c v : List ℕ) → BeginsRow types bytes c v → (length c ≤ 1024) × IsFrame bytes c v
+frame_of types bytes c v ((string, value), at) =
+    let short = string_length types.clustering c string in
+    (short, (omega arith, value_length types.value v value, at))
   where
     value_length : (kind : ValueType) (v : List ℕ) → IsValueOf kind v → length v < 2 ^ 16
     value_length Text v is = is.0
     value_length Blob v is = is
 
-pub no_row : (schema : Schema) (bytes : List ℕ) → NoFrame bytes → NoRow schema bytes
-no_row schema bytes none = (λ c v row. let frame = frame_of schema bytes c v row in none.0 c v frame.0 frame.1, none.1)
+pub no_row : (types : Types) (bytes : List ℕ) → NoFrame bytes → NoRow types bytes
+no_row types bytes none = (λ c v row. let frame = frame_of types bytes c v row in none.0 c v frame.0 frame.1, none.1)
 
-pub no_row_else : (schema : Schema) (bytes c v : List ℕ) → IsFrame bytes c v → (IsRow schema c v → ⊥) → (more : List ℕ) → NoRow schema (bytes ++ more)
-no_row_else schema bytes c v (k, l, (rest, at)) not more =
+pub no_row_else : (types : Types) (bytes c v : List ℕ) → IsFrame bytes c v → (IsRow types c v → ⊥) → (more : List ℕ) → NoRow types (bytes ++ more)
+no_row_else types bytes c v (k, l, (rest, at)) not more =
     let all : bytes ++ more ≡ row_bytes c v ++ (rest ++ more) = ap (λ t. t ++ more) at ∙ append_assoc (row_bytes c v) rest more in (
       λ d w (is, (behind, e)).
           let same = row-same c v (rest ++ more) d w behind (sym all ∙ e) in
-          not (subst (λ (x : List ℕ). IsRow schema x v) (sym same.0) (subst (λ (x : List ℕ). IsRow schema d x) (sym same.1) is)),
+          not (subst (λ (x : List ℕ). IsRow types x v) (sym same.0) (subst (λ (x : List ℕ). IsRow types d x) (sym same.1) is)),
       λ (behind, e). no_end _ (behind, sym (all ∙ behind_first c v (rest ++ more)) ∙ e),
     )
 

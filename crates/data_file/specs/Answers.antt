@@ -4,7 +4,7 @@ use Rattle.outside.specs.declared.store.Part.TheVariants.{Data}
 use Rattle.bti_nodes.specs.declared.damage.Cause.{Cause}
 use Rattle.bti_nodes.specs.declared.damage.Cause.TheVariants.{BadHead, BadRow}
 use Rattle.bti_nodes.specs.declared.damage.Damage.{Damage}
-use Rattle.key_types.specs.declared.schema.Schema.{Schema}
+use Rattle.data_file.specs.Types.{Types}
 use Rattle.data_file.specs.declared.reading.Head.{Head}
 use Rattle.data_file.specs.declared.reading.RowAt.{RowAt}
 use Rattle.data_file.specs.declared.reading.DataError.{DataError}
@@ -16,18 +16,18 @@ abbrev pub damage_at : ℕ → Cause → Damage
 damage_at at cause = record { part = Data; position = at; cause = cause }
 
 -- the bytes that stand at the place begin with this head, or with none, which is damage; a store may fail and memory run out
-abbrev pub IsHead : Schema → List ℕ → ℕ → Result Head DataError → Type 0
-IsHead schema bytes at (Ok head) = IsHeadAt schema bytes at head
-IsHead schema bytes at (Err (Damaged damage)) = (damage ≡ damage_at at BadHead) × NoHead schema bytes
-IsHead schema bytes at (Err StoreFault) = Unit {0}
-IsHead schema bytes at (Err NoMemory) = Unit {0}
+abbrev pub IsHead : Types → List ℕ → ℕ → Result Head DataError → Type 0
+IsHead types bytes at (Ok head) = IsHeadAt types bytes at head
+IsHead types bytes at (Err (Damaged damage)) = (damage ≡ damage_at at BadHead) × NoHead types bytes
+IsHead types bytes at (Err StoreFault) = Unit {0}
+IsHead types bytes at (Err NoMemory) = Unit {0}
 
 -- the same of a row or an end
-abbrev pub IsRowOrEnd : Schema → List ℕ → ℕ → Result RowAt DataError → Type 0
-IsRowOrEnd schema bytes at (Ok row) = IsRowAt schema bytes at row
-IsRowOrEnd schema bytes at (Err (Damaged damage)) = (damage ≡ damage_at at BadRow) × NoRow schema bytes
-IsRowOrEnd schema bytes at (Err StoreFault) = Unit {0}
-IsRowOrEnd schema bytes at (Err NoMemory) = Unit {0}
+abbrev pub IsRowOrEnd : Types → List ℕ → ℕ → Result RowAt DataError → Type 0
+IsRowOrEnd types bytes at (Ok row) = IsRowAt types bytes at row
+IsRowOrEnd types bytes at (Err (Damaged damage)) = (damage ≡ damage_at at BadRow) × NoRow types bytes
+IsRowOrEnd types bytes at (Err StoreFault) = Unit {0}
+IsRowOrEnd types bytes at (Err NoMemory) = Unit {0}
 
 -- no damage was found
 abbrev pub IsStop : DataError → Type 0

@@ -1,3 +1,4 @@
+pub mod Types
 pub mod Strings
 pub mod Listing
 pub mod Reading

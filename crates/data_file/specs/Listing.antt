@@ -1,7 +1,7 @@
 -- The bytes of a data file, and the partitions and rows that they list. The layout is this project's own.
 use Rattle.std.specs.Prelude.{◌≡◌, ℕ, ◌/◌, ◌%◌, List, [], ◌∷◌, ◌++◌, length, Option, None, Some}
 use Rattle.key_types.specs.Kinds.{kinds_of}
-use Rattle.key_types.specs.declared.schema.Schema.{Schema}
+use Rattle.data_file.specs.Types.{Types}
 use Rattle.key_types.specs.declared.schema.ValueType.{ValueType}
 use Rattle.data_file.specs.Strings.{IsStringOf, IsValueOf}
 
@@ -64,24 +64,24 @@ IsFixed None (Some value) = ⊥
 IsFixed (Some type) (Some value) = IsValueOf type value
 
 -- the row is one of the table
-abbrev pub IsRow : Schema → List ℕ → List ℕ → Type 0
-IsRow schema clustering value = IsStringOf (kinds_of schema.clustering) clustering × IsValueOf schema.value value
+abbrev pub IsRow : Types → List ℕ → List ℕ → Type 0
+IsRow types clustering value = IsStringOf types.clustering clustering × IsValueOf types.value value
 
-abbrev pub AreRows : Schema → List Row → Type 0
-AreRows schema [] = Unit {0}
-AreRows schema (row ∷ rows) = IsRow schema row.clustering row.value × AreRows schema rows
+abbrev pub AreRows : Types → List Row → Type 0
+AreRows types [] = Unit {0}
+AreRows types (row ∷ rows) = IsRow types row.clustering row.value × AreRows types rows
 
-abbrev pub ArePartitions : Schema → List Partition → Type 0
-ArePartitions schema [] = Unit {0}
-ArePartitions schema (partition ∷ partitions) =
-    IsStringOf (kinds_of schema.partition) partition.key × IsFixed schema.static_value partition.fixed × AreRows schema partition.rows
-    × ArePartitions schema partitions
+abbrev pub ArePartitions : Types → List Partition → Type 0
+ArePartitions types [] = Unit {0}
+ArePartitions types (partition ∷ partitions) =
+    IsStringOf types.partition partition.key × IsFixed types.static_value partition.fixed × AreRows types partition.rows
+    × ArePartitions types partitions
 
 -- ---- the listing
 
 -- the bytes of a data file list these partitions
-abbrev pub Lists : Schema → List ℕ → List Partition → Type 0
-Lists schema bytes partitions = (bytes ≡ data_bytes schema.static_value partitions) × ArePartitions schema partitions
+abbrev pub Lists : Types → List ℕ → List Partition → Type 0
+Lists types bytes partitions = (bytes ≡ data_bytes types.static_value partitions) × ArePartitions types partitions
 
 -- where the partition behind these stands in the file
 abbrev pub position_behind : Option ValueType → List Partition → ℕ

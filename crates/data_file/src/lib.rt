@@ -8,7 +8,7 @@ mod strings;
 mod writer;
 
 pub use laws::law_listing;
-pub use parse::{ParseRow, head_in, parse_row};
+pub use parse::{ParseRow, RowParts, head_in, parse_row, row_in};
 pub use reading::{DataError, DataRow, Head, RowAt, read_partition_head, read_row};
 pub use writer::{Counts, DataWriter};
 

@@ -1,7 +1,8 @@
 ghost use Rattle.std.specs.Prelude.{◌≡◌, ◌<◌, ◌≤◌, ◌+◌, ◌++◌, ◌^◌, List, ℕ, length, IfOk, IfSome, IsNone, MatchOption, Err, ◌∷◌, true, false};
 ghost use Rattle.key_types.specs.Kinds.{kinds_of, more, int, end};
+ghost use Rattle.data_file.specs.Types.{types_of};
 ghost use Rattle.data_file.specs.Listing.{counted};
-ghost use Rattle.data_file.specs.Reading.{BeginsEnd, BeginsHead, IsRowAt, NoHead, NoRow};
+ghost use Rattle.data_file.specs.Reading.{BeginsEnd, BeginsHead, BeginsRow, IsRowAt, NoHead, NoRow};
 ghost use Rattle.data_file.specs.Parsing.{IsCutOff, IsFrame, NoFrame};
 
 use crate::reading::{DataRow, RowAt};
@@ -52,8 +53,8 @@ fn counted(bytes: &[u8]) -> Option<(&[u8], &[u8])>
 /// The string of the partition whose head the bytes begin with, where they begin with one.
 pub fn head_in<'b>(schema: &Schema, bytes: &'b [u8]) -> Option<&'b [u8]>
     requires { kinds_of schema.now.partition ≡ more int end }
-    ensures some { IfSome result (λ key. BeginsHead schema.now bytes.now key.now) }
-    ensures none { IsNone result → NoHead schema.now bytes.now }
+    ensures some { IfSome result (λ key. BeginsHead (types_of schema.now) bytes.now key.now) }
+    ensures none { IsNone result → NoHead (types_of schema.now) bytes.now }
 {
     let (key, _) = counted(bytes)?;
     if !is_partition_string(schema, key) {
@@ -112,26 +113,53 @@ fn frame(bytes: &[u8]) -> Result<Option<(&[u8], &[u8])>, ParseRow>
     }
 }
 
-/// The row or the end of a partition with which the bytes of a data file begin, from the position `at` on.
-pub fn parse_row(alloc: Global, schema: &Schema, bytes: &[u8], at: u64) -> Result<RowAt, ParseRow>
-    requires strings { kinds_of schema.now.clustering ≡ end }
-    requires place { at < 2 ^ 62 }
-    ensures row { IfOk result (IsRowAt schema.now bytes.now at) }
-    ensures short { result ≡ Err ParseRow.Short → NoRow schema.now bytes.now × (length bytes.now < 66564) }
-    ensures bad { result ≡ Err ParseRow.Bad → (more : List ℕ) → NoRow schema.now (bytes.now ++ more) }
+/// The strings of a row where its bytes stand.
+#[derive(Clone, Copy, Debug)]
+pub struct RowParts<'b> {
+    pub clustering: &'b [u8],
+    pub value: &'b [u8],
+}
+
+/// The row with which the bytes of a data file begin, behind a head or a row; `None` for the end of a partition.
+/// It takes no memory.
+pub fn row_in<'b>(schema: &Schema, bytes: &'b [u8]) -> Result<Option<RowParts<'b>>, ParseRow>
+    requires { kinds_of schema.now.clustering ≡ end }
+    ensures row { IfOk result (λ found. MatchOption found (BeginsEnd bytes.now)
+        (λ row. BeginsRow (types_of schema.now) bytes.now row.clustering.now row.value.now)) }
+    ensures short { result ≡ Err ParseRow.Short → NoRow (types_of schema.now) bytes.now × (length bytes.now < 66564) }
+    ensures bad { result ≡ Err ParseRow.Bad → (more : List ℕ) → NoRow (types_of schema.now) (bytes.now ++ more) }
+    ensures memory { ¬ (result ≡ Err ParseRow.NoMemory) }
 {
     let found = match frame(bytes) {
         Ok(found) => found,
         Err(e) => return Err(e),
     };
     let Some((clustering, value)) = found else {
-        return Ok(RowAt::End(at + 1));
+        return Ok(None);
     };
     if !is_row(schema, clustering, value) {
         return Err(ParseRow::Bad);
     }
-    let end = at + 5 + clustering.len() as u64 + value.len() as u64;
-    Ok(RowAt::Row(data_row(alloc, clustering, value, end)?))
+    Ok(Some(RowParts { clustering, value }))
+}
+
+/// The row or the end of a partition with which the bytes of a data file begin, from the position `at` on.
+pub fn parse_row(alloc: Global, schema: &Schema, bytes: &[u8], at: u64) -> Result<RowAt, ParseRow>
+    requires strings { kinds_of schema.now.clustering ≡ end }
+    requires place { at < 2 ^ 62 }
+    ensures row { IfOk result (IsRowAt (types_of schema.now) bytes.now at) }
+    ensures short { result ≡ Err ParseRow.Short → NoRow (types_of schema.now) bytes.now × (length bytes.now < 66564) }
+    ensures bad { result ≡ Err ParseRow.Bad → (more : List ℕ) → NoRow (types_of schema.now) (bytes.now ++ more) }
+{
+    let found = match row_in(schema, bytes) {
+        Ok(found) => found,
+        Err(e) => return Err(e),
+    };
+    let Some(parts) = found else {
+        return Ok(RowAt::End(at + 1));
+    };
+    let end = at + 5 + parts.clustering.len() as u64 + parts.value.len() as u64;
+    Ok(RowAt::Row(data_row(alloc, parts.clustering, parts.value, end)?))
 }
 
 fn data_row(alloc: Global, clustering: &[u8], value: &[u8], end: u64) -> Result<DataRow, NoMemory>

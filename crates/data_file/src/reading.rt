@@ -2,6 +2,7 @@ ghost use Rattle.std.specs.Prelude.{◌≡◌, ◌<◌, ◌≤◌, ◌+◌, ◌^
 ghost use Rattle.outside.specs.Causes.{Rose};
 ghost use Rattle.outside.specs.Files.{bytes_of};
 ghost use Rattle.key_types.specs.Kinds.{kinds_of, more, int, end};
+ghost use Rattle.data_file.specs.Types.{types_of};
 ghost use Rattle.data_file.specs.Answers.{damage_at, IsHead, IsRowOrEnd, IsStop};
 ghost use Rattle.data_file.specs.Held.{IsFront, IsRest};
 
@@ -111,7 +112,7 @@ pub fn read_partition_head<K: Store>(
 ) -> Result<Head, DataError>
     requires strings { kinds_of schema.now.partition ≡ more int end }
     requires place { at < 2 ^ 62 }
-    ensures head { IfSome (K.files store.old) (λ m. IsHead schema.now (drop at (bytes_of m file)) at result) }
+    ensures head { IfSome (K.files store.old) (λ m. IsHead (types_of schema.now) (drop at (bytes_of m file)) at result) }
     ensures files { K.files store.new ≡ K.files store.old }
     ensures reads { K.reads store.new ≤ K.reads store.old + 2 }
     ensures later { K.faults store.old ≤ K.faults store.new }
@@ -126,7 +127,7 @@ pub fn read_partition_head<K: Store>(
 fn head_of(alloc: Global, schema: &Schema, bytes: &[u8], at: u64) -> Result<Head, DataError>
     requires strings { kinds_of schema.now.partition ≡ more int end }
     requires place { at < 2 ^ 62 }
-    ensures told { IsHead schema.now bytes.now at result }
+    ensures told { IsHead (types_of schema.now) bytes.now at result }
     ensures fault { ¬ (result ≡ Err DataError.StoreFault) }
 {
     let Some(key) = head_in(schema, bytes) else {
@@ -143,7 +144,7 @@ fn head_of(alloc: Global, schema: &Schema, bytes: &[u8], at: u64) -> Result<Head
 fn early(alloc: Global, schema: &Schema, bytes: &[u8], at: u64) -> Option<Result<RowAt, DataError>>
     requires strings { kinds_of schema.now.clustering ≡ end }
     requires place { at < 2 ^ 62 }
-    ensures told { IfSome result (λ found. (rest : List ℕ) → IsRowOrEnd schema.now (bytes.now ++ rest) at found) }
+    ensures told { IfSome result (λ found. (rest : List ℕ) → IsRowOrEnd (types_of schema.now) (bytes.now ++ rest) at found) }
     ensures fault { IfSome result (λ found. ¬ (found ≡ Err DataError.StoreFault)) }
     ensures few { IsNone result → length bytes.now < 66564 }
 {
@@ -159,7 +160,7 @@ fn early(alloc: Global, schema: &Schema, bytes: &[u8], at: u64) -> Option<Result
 fn late(alloc: Global, schema: &Schema, bytes: &[u8], at: u64) -> Result<RowAt, DataError>
     requires strings { kinds_of schema.now.clustering ≡ end }
     requires place { at < 2 ^ 62 }
-    ensures told { IsRowOrEnd schema.now bytes.now at result }
+    ensures told { IsRowOrEnd (types_of schema.now) bytes.now at result }
     ensures fault { ¬ (result ≡ Err DataError.StoreFault) }
 {
     match parse_row(alloc, schema, bytes, at) {
@@ -180,7 +181,7 @@ pub fn read_row<K: Store>(
 ) -> Result<RowAt, DataError>
     requires strings { kinds_of schema.now.clustering ≡ end }
     requires place { at < 2 ^ 62 }
-    ensures row { IfSome (K.files store.old) (λ m. IsRowOrEnd schema.now (drop at (bytes_of m file)) at result) }
+    ensures row { IfSome (K.files store.old) (λ m. IsRowOrEnd (types_of schema.now) (drop at (bytes_of m file)) at result) }
     ensures files { K.files store.new ≡ K.files store.old }
     ensures reads { K.reads store.new ≤ K.reads store.old + 18 }
     ensures later { K.faults store.old ≤ K.faults store.new }

@@ -1,5 +1,6 @@
 ghost use Rattle.std.specs.Prelude.{◌≡◌, ◌↔◌, IsTrue};
 ghost use Rattle.key_types.specs.Kinds.{kinds_of, more, int, end};
+ghost use Rattle.data_file.specs.Types.{types_of};
 ghost use Rattle.data_file.specs.Listing.{IsRow};
 ghost use Rattle.data_file.specs.Strings.{is_empty_string, is_int_string, IsStringOf, IsValueOf};
 
@@ -34,7 +35,7 @@ fn is_value(kind: ValueType, bytes: &[u8]) -> bool
 /// Whether these are the clustering and the value of a row.
 pub fn is_row(schema: &Schema, clustering: &[u8], value: &[u8]) -> bool
     requires { kinds_of schema.now.clustering ≡ end }
-    ensures { IsTrue result ↔ IsRow schema.now clustering.now value.now }
+    ensures { IsTrue result ↔ IsRow (types_of schema.now) clustering.now value.now }
 {
     is_clustering_string(schema, clustering) && is_value(schema.value, value)
 }

@@ -1,7 +1,9 @@
 pub mod Request
 pub mod Rows
+pub mod Standing
 pub mod Printed
 pub mod Input
 pub mod Listing
+pub mod FaultLine
 pub mod Outcome
 pub mod Numbers

@@ -1,30 +1,11 @@
 -- How a run ends, what it has written, and why. This project's own.
-use Rattle.std.specs.Prelude.{◌≡◌, ◌⊎◌, ℕ, ◌≤◌, List, [], ◌∷◌, ◌++◌, length, take, codes, Option, Result, Ok, Err, IfSome}
-use Rattle.std.specs.Fmt.{decimal}
+use Rattle.std.specs.Prelude.{◌≡◌, ◌⊎◌, ℕ, ◌≤◌, List, ◌++◌, length, take, Option, Result, Ok, Err, IfSome}
 use Rattle.outside.specs.Told.{WhereTold}
 use Rattle.outside.specs.Causes.{Rose}
-use Rattle.script_text.specs.declared.script.LineCause.{LineCause}
-use Rattle.script_text.specs.declared.script.LineCause.TheVariants.{NotUtf8, BadText, OutOfRange, KeyTooLong, ValueTooLong}
 use Rattle.table_tool.specs.declared.status.Status.{Status}
 use Rattle.table_tool.specs.declared.status.Status.TheVariants as status
+use Rattle.table_tool.specs.FaultLine.{fault_line}
 use Rattle.table_tool.specs.Listing.{listing}
-
--- ---- the fault line
-
-abbrev pub cause_text : LineCause → List ℕ
-cause_text NotUtf8 = codes "not utf-8"
-cause_text (BadText at) = codes "bad text at " ++ decimal at
-cause_text (OutOfRange at) = codes "out of range at " ++ decimal at
-cause_text (KeyTooLong count) = codes "key too long " ++ decimal count
-cause_text (ValueTooLong count) = codes "value too long " ++ decimal count
-
--- the line that a refusal ends with; Ok, a fault of the sink and want of memory have none
-abbrev pub fault_line : Status → List ℕ
-fault_line status.Usage = codes "error: usage\n"
-fault_line (status.BadLine line cause) = codes "error: line " ++ decimal line ++ codes ": " ++ cause_text cause ++ codes "\n"
-fault_line status.SourceFault = codes "error: source fault\n"
-fault_line status.TooLarge = codes "error: too large\n"
-fault_line _ = []
 
 -- ---- what was written
 

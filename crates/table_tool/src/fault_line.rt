@@ -1,10 +1,12 @@
 //! The line that a refusal ends with.
 ghost use Rattle.std.specs.Prelude.{◌≡◌, ◌++◌, OnOk, IfOk};
-ghost use Rattle.table_tool.specs.Outcome.{cause_text, fault_line};
+ghost use Rattle.table_tool.specs.FaultLine.{cause_text, damage_text, fault_line, part_text};
 
 use crate::numbers::put_number;
 use crate::status::Status;
+use bti_nodes::{Cause, Damage};
 use key_types::{ByteList, NoMemory};
+use outside::Part;
 use script_text::LineCause;
 use std::alloc::Global;
 
@@ -21,6 +23,46 @@ fn put_cause(out: &mut ByteList, cause: LineCause) -> Result<(), NoMemory>
     }
 }
 
+/// The name of a part.
+fn part_name(part: Part) -> &'static [u8]
+    ensures { result.now ≡ part_text part }
+{
+    match part {
+        Part::Data => b"Data",
+        Part::Partitions => b"Partitions",
+        Part::Rows => b"Rows",
+        Part::Schema => b"Schema",
+    }
+}
+
+/// What is wrong at a place of a file.
+fn damage_name(cause: Cause) -> &'static [u8]
+    ensures { result.now ≡ damage_text cause }
+{
+    match cause {
+        Cause::PastPage => b"past page",
+        Cause::BadOrder => b"bad order",
+        Cause::BadPointer => b"bad pointer",
+        Cause::BadPayload => b"bad payload",
+        Cause::BadFooter => b"bad footer",
+        Cause::BadEntry => b"bad entry",
+        Cause::BadHead => b"bad head",
+        Cause::BadRow => b"bad row",
+    }
+}
+
+/// Appends the line of damage.
+fn put_damage(out: &mut ByteList, damage: Damage) -> Result<(), NoMemory>
+    ensures { OnOk result (out.new ≡ out.old ++ fault_line (Status.Damaged damage)) }
+{
+    out.extend(b"error: damaged ")?;
+    out.extend(part_name(damage.part))?;
+    put_number(out, b" at ", damage.position)?;
+    out.extend(b": ")?;
+    out.extend(damage_name(damage.cause))?;
+    out.push(b'\n')
+}
+
 /// The fault line of a status, which is empty for Ok, a fault of the sink and want of memory.
 pub fn fault_line(alloc: Global, status: Status) -> Result<ByteList, NoMemory>
     ensures { IfOk result (λ line. line ≡ fault_line status) }
@@ -30,6 +72,10 @@ pub fn fault_line(alloc: Global, status: Status) -> Result<ByteList, NoMemory>
         Status::Ok | Status::SinkFault | Status::NoMemory => {}
         Status::Usage => out.extend(b"error: usage\n")?,
         Status::SourceFault => out.extend(b"error: source fault\n")?,
+        Status::StoreFault => out.extend(b"error: store fault\n")?,
+        Status::Damaged(damage) => put_damage(&mut out, damage)?,
+        Status::Unfinished => out.extend(b"error: unfinished\n")?,
+        Status::Exists => out.extend(b"error: exists\n")?,
         Status::TooLarge => out.extend(b"error: too large\n")?,
         Status::BadLine(line, cause) => {
             put_number(&mut out, b"error: line ", u64::from(line))?;

@@ -1,6 +1,7 @@
 ghost use Rattle.std.specs.Prelude.{◌≡◌};
 ghost use Rattle.table_tool.specs.Numbers.{number_of};
 
+use bti_nodes::Damage;
 use script_text::LineCause;
 
 /// How a run ended.
@@ -15,6 +16,14 @@ pub enum Status {
     SourceFault,
     /// The sink failed.
     SinkFault,
+    /// The store failed.
+    StoreFault,
+    /// A file of the table is not sound at a place that was read.
+    Damaged(Damage),
+    /// Schema.txt isn't there or isn't whole, so no load has ended here.
+    Unfinished,
+    /// A file of the table is there already.
+    Exists,
     /// The script has over 67,108,864 bytes or 1,000,000 lines.
     TooLarge,
     NoMemory,
@@ -31,6 +40,10 @@ impl Status {
             Status::BadLine(_, _) => 2,
             Status::SourceFault => 4,
             Status::SinkFault => 5,
+            Status::StoreFault => 6,
+            Status::Damaged(_) => 7,
+            Status::Unfinished => 8,
+            Status::Exists => 9,
             Status::TooLarge => 10,
             Status::NoMemory => 12,
         }

@@ -1,6 +1,7 @@
 use Rattle.std.proofs.Common.{◌≡◌, ◌+◌, ◌*◌, ◌<◌, ◌≤◌, ◌∙◌, arith, ap, false, inl, inr, length, refl, rules}
 use Rattle.data_file.proofs.Found.{early_stays, none_held}
 use Rattle.data_file.proofs.reading.read_row.Goals as goal
+use Rattle.data_file.specs.Types.{types_of}
 
 pub pages-init : goal.pages-init
 pages-init g c =
@@ -17,7 +18,7 @@ pages-init g c =
 
 pub returns-in-Some-clause-row : goal.returns-in-Some-clause-row
 returns-in-Some-clause-row g c =
-    early_stays (g.K.Store.files c.args.store.now) (g.K.Store.files c.pages.store) c.args.file c.args.schema.now c.args.at c.pages.held c.as_slice.result.now
+    early_stays (g.K.Store.files c.args.store.now) (g.K.Store.files c.pages.store) c.args.file (types_of c.args.schema.now) c.args.at c.pages.held c.as_slice.result.now
     c.in-Some.found c.pages.invariant.same c.as_slice.ensures c.pages.invariant.front c.in-Some.ensures.told
 
 pub pages-preserved : goal.pages-preserved
