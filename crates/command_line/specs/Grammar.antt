@@ -7,6 +7,14 @@ use Rattle.command_line.specs.Forms.{with_commands, with_required}
 abbrev pub list : Shape
 list = with_required (new_shape (codes "list")) (codes "schema" ∷ [])
 
+-- `load --schema S`
+abbrev pub load : Shape
+load = with_required (new_shape (codes "load")) (codes "schema" ∷ [])
+
+-- `scan`
+abbrev pub scan : Shape
+scan = with_required (new_shape (codes "scan")) []
+
 -- the command line before its commands: one of them has to be named, and there is no help and no version
 abbrev pub bare : App
 bare = record {
@@ -21,4 +29,4 @@ bare = record {
 
 -- the command line: its commands
 abbrev pub tool : App
-tool = with_commands bare (list ∷ [])
+tool = with_commands bare (list ∷ load ∷ scan ∷ [])

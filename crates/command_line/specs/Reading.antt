@@ -8,7 +8,7 @@ use Rattle.clap.specs.Simple.{subcommand_of}
 use Rattle.clap.specs.Kinds.{Kinds}
 use Rattle.clap.specs.Faults.{fault_of}
 use Rattle.command_line.specs.Grammar.{tool}
-use Rattle.command_line.specs.Said.{Said, list}
+use Rattle.command_line.specs.Said.{Said, list, load, scan}
 use Rattle.command_line.specs.declared.command.WordsError.{WordsError}
 use Rattle.command_line.specs.declared.command.WordsError.TheVariants.{Usage}
 
@@ -48,9 +48,15 @@ reads (Err e) next = Err Usage
 abbrev pub list_in : List Row → Result Said WordsError
 list_in rows = reads (needed_text (first_of (codes "schema") rows)) (λ schema. Ok (list schema))
 
+-- `load` with its values
+abbrev pub load_in : List Row → Result Said WordsError
+load_in rows = reads (needed_text (first_of (codes "schema") rows)) (λ schema. Ok (load schema))
+
 -- the command of this name, with the values that were found for it
 abbrev pub said_by : Text → List Row → Result Said WordsError
-said_by name rows = if bytes_eq name (codes "list") then list_in rows else Err Usage
+said_by name rows = if bytes_eq name (codes "list") then list_in rows
+    else (if bytes_eq name (codes "load") then load_in rows
+    else (if bytes_eq name (codes "scan") then Ok scan else Err Usage))
 
 -- what the words that were found say
 abbrev pub said_in : Result (Option (Text × List Row)) WordsError → Result Said WordsError

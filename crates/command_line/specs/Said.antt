@@ -10,10 +10,14 @@ use Rattle.command_line.specs.declared.command.WordsError.TheVariants.{Usage, No
 -- a command with its values
 pub data Said : Type 0 where
   list : (schema : Text) → Said
+  load : (schema : Text) → Said
+  scan : Said
 
 -- what a command of the code says
 abbrev pub said_of : Command → Said
 said_of (command.List arguments) = list (string_bytes arguments.schema)
+said_of (command.Load arguments) = load (string_bytes arguments.schema)
+said_of command.Scan = scan
 
 -- the answer is the expected one as `view` sees it, or memory ran out
 abbrev pub Answers : {X Y : Type 0} → (X → Y) → Result X WordsError → Result Y WordsError → Type 0

@@ -8,11 +8,22 @@ pub struct ListArguments {
     pub schema: String,
 }
 
+/// The values of `load`.
+#[derive(Debug, Drop)]
+pub struct LoadArguments {
+    /// The schema, as its text.
+    pub schema: String,
+}
+
 /// A command of the tool, with its values.
 #[derive(Debug, Drop)]
 pub enum Command {
     /// `list --schema S`
     List(ListArguments),
+    /// `load --schema S`
+    Load(LoadArguments),
+    /// `scan`
+    Scan,
 }
 
 /// Why no command was read.

@@ -61,6 +61,20 @@ fn list<'a>(alloc: Global) -> Result<Command<'a>, AllocError>
     with_required(alloc, Command::new(alloc, "list"), &["schema"])
 }
 
+fn load<'a>(alloc: Global) -> Result<Command<'a>, AllocError>
+    ensures shape { IfOk result (λ c. shape_of c ≡ grammar.load) }
+    ensures local { IfOk result (λ c. (fields_of c).has_globals ≡ false) }
+{
+    with_required(alloc, Command::new(alloc, "load"), &["schema"])
+}
+
+fn scan<'a>(alloc: Global) -> Command<'a>
+    ensures shape { shape_of result ≡ grammar.scan }
+    ensures local { (fields_of result).has_globals ≡ false }
+{
+    Command::new(alloc, "scan")
+}
+
 /// The command line before its commands.
 fn bare<'a>(alloc: Global) -> Command<'a>
     ensures { app_of result ≡ grammar.bare }
@@ -76,5 +90,7 @@ fn bare<'a>(alloc: Global) -> Command<'a>
 pub fn tool<'a>(alloc: Global) -> Result<Command<'a>, AllocError>
     ensures { IfOk result (λ c. app_of c ≡ grammar.tool) }
 {
-    with_command(bare(alloc), list(alloc)?)
+    let tool = with_command(bare(alloc), list(alloc)?)?;
+    let tool = with_command(tool, load(alloc)?)?;
+    with_command(tool, scan(alloc))
 }

@@ -7,7 +7,7 @@ mod getters;
 mod laws;
 mod reading;
 
-pub use command::{Command, ListArguments, WordsError};
+pub use command::{Command, ListArguments, LoadArguments, WordsError};
 pub use laws::law_list;
 pub use reading::read_words;
 

@@ -3,10 +3,10 @@ ghost use Rattle.std.specs.Prelude.{◌≡◌, ◌↔◌, map};
 ghost use Rattle.std.specs.List.{list_any};
 ghost use Rattle.std.specs.String.{string_bytes};
 ghost use Rattle.clap.specs.Words.{found_of, kind_of, rows_of, subcommand_rows_of};
-ghost use Rattle.command_line.specs.Reading.{command_of, found_in, is_refused, list_in, said_by};
+ghost use Rattle.command_line.specs.Reading.{command_of, found_in, is_refused, list_in, load_in, said_by};
 ghost use Rattle.command_line.specs.Said.{Answers, said_of};
 
-use crate::command::{Command, ListArguments, WordsError};
+use crate::command::{Command, ListArguments, LoadArguments, WordsError};
 use crate::declared::tool;
 use crate::getters::{chosen, needed_text};
 use clap::error::ErrorKind;
@@ -59,11 +59,20 @@ fn list(alloc: Global, matches: &ArgMatches) -> Result<Command, WordsError>
     Ok(Command::List(ListArguments { schema }))
 }
 
+fn load(alloc: Global, matches: &ArgMatches) -> Result<Command, WordsError>
+    ensures { Answers said_of result (load_in (rows_of (found_of matches.now))) }
+{
+    let schema = needed_text(alloc, matches, "schema")?;
+    Ok(Command::Load(LoadArguments { schema }))
+}
+
 fn command(alloc: Global, name: &str, matches: &ArgMatches) -> Result<Command, WordsError>
     ensures { Answers said_of result (said_by name.now (rows_of (found_of matches.now))) }
 {
     match name {
         "list" => list(alloc, matches),
+        "load" => load(alloc, matches),
+        "scan" => Ok(Command::Scan),
         _ => Err(WordsError::Usage),
     }
 }

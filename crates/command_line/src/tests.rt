@@ -9,20 +9,22 @@ fn words_of(alloc: Global, words: &[&str]) -> Result<Vec<String>, AllocError> {
     Ok(texts)
 }
 
-/// The schema of `list`, or `usage`.
-fn schema_of(alloc: Global, words: &[&str]) -> Result<String, AllocError> {
+/// The schema of `list` or `load`, or `scan`, or `usage`.
+fn said_by(alloc: Global, words: &[&str]) -> Result<String, AllocError> {
     let texts = words_of(alloc, words)?;
     match read_words(alloc, texts.as_slice()) {
         Ok(Command::List(arguments)) => Ok(arguments.schema),
+        Ok(Command::Load(arguments)) => Ok(arguments.schema),
+        Ok(Command::Scan) => String::from_str(alloc, "scan"),
         Err(WordsError::Usage) => String::from_str(alloc, "usage"),
         Err(WordsError::NoMemory) => Err(AllocError),
     }
 }
 
 #[test]
-fn takes_list_both_ways(rt: HostRuntime) -> Result<(), AllocError> {
+fn takes_the_commands(rt: HostRuntime) -> Result<(), AllocError> {
     let alloc = rt.alloc();
-    let table: [(&[&str], &str); 7] = [
+    let table: [(&[&str], &str); 9] = [
         (&["list", "--schema", "(int; ; text)"], "(int; ; text)"),
         (&["list", "--schema=(int; ; text)"], "(int; ; text)"),
         (&["list", "--schema="], ""),
@@ -30,9 +32,11 @@ fn takes_list_both_ways(rt: HostRuntime) -> Result<(), AllocError> {
         (&["list", "--schema=--x=y"], "--x=y"),
         (&["list", "--schema", "list"], "list"),
         (&["list", "--schema", "-"], "-"),
+        (&["load", "--schema", "(int; ; text)"], "(int; ; text)"),
+        (&["scan"], "scan"),
     ];
     for (words, schema) in table {
-        let read = schema_of(alloc, words)?;
+        let read = said_by(alloc, words)?;
         assert_eq!(rt; read.as_str(), schema);
     }
     Ok(())
@@ -41,7 +45,7 @@ fn takes_list_both_ways(rt: HostRuntime) -> Result<(), AllocError> {
 #[test]
 fn refuses_other_words(rt: HostRuntime) -> Result<(), AllocError> {
     let alloc = rt.alloc();
-    let table: [&[&str]; 24] = [
+    let table: [&[&str]; 27] = [
         &[],
         &[""],
         &["list"],
@@ -59,6 +63,9 @@ fn refuses_other_words(rt: HostRuntime) -> Result<(), AllocError> {
         &["list", "-s", "s"],
         &["list", "--=s"],
         &["list", "--schema", "s", "--cells", "9"],
+        &["load"],
+        &["scan", "--schema", "s"],
+        &["scan", "list"],
         &["--schema", "s", "list"],
         &["list", "--schema", "help"],
         &["list", "--schema", "s", "--help"],
@@ -68,7 +75,7 @@ fn refuses_other_words(rt: HostRuntime) -> Result<(), AllocError> {
         &["list", "--schema", "s", "--"],
     ];
     for words in table {
-        let read = schema_of(alloc, words)?;
+        let read = said_by(alloc, words)?;
         assert_eq!(rt; read.as_str(), "usage");
     }
     Ok(())

@@ -63,7 +63,7 @@ front_of a r b s n e =
     let front : take (length b) a ≡ b = sym (take-append-le (length b) a r n) ∙ ap (take (length b)) e ∙ take-append_seam b s in
     sym (take-append-drop (length b) a) ∙ ap (λ t. t ++ drop (length b) a) front
 
-no_head_on : (types : Types) (held rest : List ℕ) → 1026 ≤ length held → NoHead types held → NoHead types (held ++ rest)
+pub no_head_on : (types : Types) (held rest : List ℕ) → 1026 ≤ length held → NoHead types held → NoHead types (held ++ rest)
 no_head_on types held rest long none key (is, (more, f)) =
     let short = string_length types.partition key is in
     let fits : length (counted key) ≤ length held = omega arith in

@@ -1,7 +1,7 @@
-mod Counted
-mod Found
+pub mod Counted
+pub mod Found
 mod Frames
 mod Pages
 mod Puts
-mod Unique
-mod Words
+pub mod Unique
+pub mod Words

@@ -5,7 +5,7 @@ use Rattle.key_types.specs.declared.schema.ValueType.{ValueType}
 use Rattle.data_file.specs.Listing.{ArePartitions, IsFixed, Lists, Partition, Row, counted, data_bytes, end_bytes, fixed_bytes, partition_bytes, row_bytes, rows_bytes}
 use Rattle.data_file.proofs.Counted.{behind_first, counted-same}
 
-row_front : (c v r d w s : List ℕ) → row_bytes c v ++ r ≡ row_bytes d w ++ s → (c ≡ d) × (v ≡ w) × (r ≡ s)
+pub row_front : (c v r d w s : List ℕ) → row_bytes c v ++ r ≡ row_bytes d w ++ s → (c ≡ d) × (v ≡ w) × (r ≡ s)
 row_front c v r d w s e =
     let both : 1 ∷ (counted c ++ (counted v ++ r)) ≡ 1 ∷ (counted d ++ (counted w ++ s)) = sym (behind_first c v r) ∙ e ∙ behind_first d w s in
     let tails : counted c ++ (counted v ++ r) ≡ counted d ++ (counted w ++ s) = cc in

@@ -1,2 +1,7 @@
-pub mod MapLemmas
+pub mod WindowLemmas
+mod WalkLemmas
+mod StepLemmas
+mod ScanLemmas
+mod EndLemmas
+mod MapLemmas
 pub mod PrintedLemmas

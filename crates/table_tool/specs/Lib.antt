@@ -1,9 +1,14 @@
 pub mod Request
 pub mod Rows
 pub mod Standing
+pub mod Window
+pub mod Walk
 pub mod Printed
 pub mod Input
 pub mod Listing
 pub mod FaultLine
 pub mod Outcome
+pub mod Steps
+pub mod Scanning
+pub mod Scanned
 pub mod Numbers

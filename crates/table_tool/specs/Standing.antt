@@ -69,5 +69,5 @@ pub record Holds (types : Types) (bytes : List ℕ) (entries : List Entry) : Typ
 
 -- Data.db holds the entries, and Schema.txt is whole
 pub record StandFor (files : Files) (entries : List Entry) : Type 0 where
-  pub data : Holds first_types (bytes_of files data_id) entries
+  pub held : Holds first_types (bytes_of files data_id) entries
   pub schema : bytes_of files schema_id ≡ schema_text

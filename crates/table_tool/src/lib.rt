@@ -2,15 +2,20 @@
 #![tactic(auto)]
 
 mod fault_line;
+mod files;
 mod input;
 mod laws;
 mod list;
 mod numbers;
 mod printing;
 mod request;
+mod saying;
+mod scan;
 mod status;
 mod table;
 mod tool;
+mod walk;
+mod window;
 
 pub use laws::law_numbers_are_named;
 pub use status::Status;

@@ -2,6 +2,8 @@
 ghost use Rattle.std.specs.Prelude.{◌≡◌, ◌≤◌, IfOk, IfErr, IfSome, Err};
 ghost use Rattle.outside.specs.Causes.{Rose};
 ghost use Rattle.key_types.specs.Kinds.{kinds_of};
+ghost use Rattle.data_file.specs.Types.{types_of};
+ghost use Rattle.table_tool.specs.Standing.{first_types};
 ghost use Rattle.script_text.specs.Script.{IsOneInt, Answers, script_of, puts_of};
 ghost use Rattle.table_tool.specs.Rows.{rows_of};
 ghost use Rattle.table_tool.specs.Printed.{rows_text};
@@ -17,8 +19,9 @@ use script_text::{BatchList, Script, ScriptError, read_script};
 use std::alloc::Global;
 
 /// The schema `(int; ; text)`.
-fn first_schema(alloc: Global) -> Result<Schema, NoMemory>
-    ensures { IfOk result (λ s. IsOneInt (kinds_of s.partition) (kinds_of s.clustering)) }
+pub fn first_schema(alloc: Global) -> Result<Schema, NoMemory>
+    ensures one { IfOk result (λ s. IsOneInt (kinds_of s.partition) (kinds_of s.clustering)) }
+    ensures types { IfOk result (λ s. types_of s ≡ first_types) }
 {
     let kind = Box::new(alloc, ColType::Int)?;
     let rest = Box::new(alloc, TypeList::End)?;

@@ -44,13 +44,21 @@ fn put_list(out: &mut ByteList, n: i64) -> Result<(), NoMemory>
     out.push(b')')
 }
 
-/// Appends the line of a row.
-fn put_row(out: &mut ByteList, key: &[u8], value: &[u8]) -> Result<(), NoMemory>
+/// Appends the line of a row, whose string begins with that of its partition.
+pub fn put_row(out: &mut ByteList, key: &[u8], value: &[u8]) -> Result<(), NoMemory>
     ensures { OnOk result (out.new ≡ out.old ++ entry_line (key.now, value.now)) }
 {
     put_list(out, number_of(key))?;
     out.extend(b" () = ")?;
     put_text(out, value)?;
+    out.push(b'\n')
+}
+
+/// Appends the last line, which says how many rows there are.
+pub fn put_count(out: &mut ByteList, rows: u64) -> Result<(), NoMemory>
+    ensures { OnOk result (out.new ≡ out.old ++ count_line rows) }
+{
+    put_number(out, b"rows ", rows)?;
     out.push(b'\n')
 }
 
@@ -62,7 +70,6 @@ pub fn print_rows(alloc: Global, rows: &Rows) -> Result<ByteList, NoMemory>
     for (key, value) in rows {
         put_row(&mut out, key.as_slice(), value.as_slice())?;
     }
-    put_number(&mut out, b"rows ", rows.len() as u64)?;
-    out.push(b'\n')?;
+    put_count(&mut out, rows.len() as u64)?;
     Ok(out)
 }

@@ -1,0 +1,355 @@
+-- How a scan ends.
+use Rattle.std.proofs.Common.{◌≡◌, ◌≢◌, ◌⊎◌, ◌↔◌, ℕ, ◌+◌, ◌-◌, ◌<◌, ◌≤◌, ◌^◌, min, Bool, true, false, List, [], ◌∷◌, ◌++◌, length, take, drop, Option, None, Some, Result, Ok, Err, IsTrue, inl, inr, refl, sym, ap, ◌∙◌, subst, arith, append_assoc, length-append, ⊎_elim}
+use Rattle.std.proofs.lemmas.List.{append-nil, take_all, take-append-le, length-take}
+use Rattle.std.proofs.Math.Seq.{take-append_seam}
+use Rattle.std.proofs.lemmas.Slice.Eq.{bytes_eq-Decides}
+use Rattle.std.specs.Prelude.{IfSome}
+use Rattle.std.specs.Str.{bytes_eq}
+use Rattle.outside.specs.Causes.{Rose}
+use Rattle.outside.specs.Files.{Files, bytes_of}
+use Rattle.outside.specs.Told.{WhereTold}
+use Rattle.key_types.specs.Table.{Entry}
+use Rattle.bti_nodes.specs.declared.damage.Damage.{Damage}
+use Rattle.table_tool.specs.declared.status.Status.{Status}
+use Rattle.table_tool.specs.declared.status.Status.TheVariants as status
+use Rattle.table_tool.specs.declared.scan.Scan.{Scan}
+use Rattle.table_tool.specs.declared.scan.ScanError.{ScanError}
+use Rattle.table_tool.specs.declared.scan.ScanError.TheVariants as scan_error
+use Rattle.table_tool.specs.FaultLine.{fault_line}
+use Rattle.table_tool.specs.Outcome.{AppendsPrefix, IsOrNoMemory, Refuses, Says}
+use Rattle.table_tool.specs.Printed.{count_line, entry_lines, rows_text}
+use Rattle.table_tool.specs.Scanned.{Holding, IsEither, Prints, Scanned}
+use Rattle.table_tool.specs.Scanning.{EndsScan, IsShown, IsUnfinished, ScanEnds, ScanPrints, ScanWrites, Shown, all, cut, part, shown_text}
+use Rattle.table_tool.specs.Standing.{Holds, StandFor, data_id, first_types, entries_in, row_entries, schema_id, schema_text}
+use Rattle.table_tool.specs.Steps.{inside_of}
+use Rattle.data_file.specs.Types.{Types}
+use Rattle.data_file.specs.Listing.{AreRows, ArePartitions, Partition, Row, data_bytes, end_bytes, head_bytes, row_bytes, rows_bytes}
+use Rattle.table_tool.specs.Walk.{Passes, Stops, Walks}
+use Rattle.table_tool.specs.Walk as walks
+use Rattle.table_tool.specs.Window.{Unread, Continues}
+use Rattle.table_tool.proofs.PrintedLemmas.{lines_append}
+use Rattle.table_tool.proofs.ScanLemmas.{cut_prefix, pushed_prefix}
+
+-- ---- what is told
+
+told_map : (a b : Option (List ℕ)) (P Q : List ℕ → List ℕ → Type 0) → ((x y : List ℕ) → P x y → Q x y) → WhereTold a b P → WhereTold a b Q
+told_map None None P Q f told = tt
+told_map None (Some y) P Q f told = absurd told
+told_map (Some x) None P Q f told = absurd told
+told_map (Some x) (Some y) P Q f told = f x y told
+
+told_then : (a b c : Option (List ℕ)) (P Q R : List ℕ → List ℕ → Type 0) → ((x y z : List ℕ) → P x y → Q y z → R x z) → WhereTold a b P → WhereTold b c Q → WhereTold a c R
+told_then None None None P Q R f one two = tt
+told_then None None (Some z) P Q R f one two = absurd two
+told_then None (Some y) c P Q R f one two = absurd one
+told_then (Some x) None c P Q R f one two = absurd one
+told_then (Some x) (Some y) None P Q R f one two = absurd two
+told_then (Some x) (Some y) (Some z) P Q R f one two = f x y z one two
+
+-- a count that rose after a while rose
+pub earlier : (sink mid sink' : ℕ) → sink ≤ mid → Rose mid sink' → Rose sink sink'
+earlier sink mid sink' before rose = omega arith
+
+-- ---- a push behind another
+
+module _ (pushed text lines : List ℕ) (whole : pushed ++ text ≡ lines) (sink mid sink' : ℕ) (before : sink ≤ mid) where
+  says_behind : (line x y z : List ℕ) → y ≡ x ++ pushed → Says line mid sink' (y ++ text) z → Says line sink sink' (x ++ lines) z
+  says_behind line x y z e says =
+      let same : y ++ text ≡ x ++ lines = ap (λ t. t ++ text) e ∙ (append_assoc x pushed text ∙ ap (λ t. x ++ t) whole) in
+      ⊎_elim (λ (t : z ≡ (y ++ text) ++ line). inl (t ∙ ap (λ s. s ++ line) same))
+      (λ (t : Rose mid sink' × AppendsPrefix line (y ++ text) z). inr (earlier sink mid sink' before t.0, subst (λ (s : List ℕ). AppendsPrefix line s z) same t.1)) (subst (λ (s : List ℕ). Says line mid sink' s z) refl says)
+
+  cut_behind : (x y z : List ℕ) → y ≡ x ++ pushed → AppendsPrefix text y z → AppendsPrefix lines x z
+  cut_behind x y z e piece = cut_prefix (Some x) (Some y) (Some z) pushed text lines whole e piece
+
+  behind_one : (result : Status) (x y z : List ℕ) → y ≡ x ++ pushed → ScanWrites result text mid sink' y z → ScanWrites result lines sink sink' x z
+  behind_one status.Ok x y z e writes = writes ∙ (ap (λ t. t ++ text) e ∙ (append_assoc x pushed text ∙ ap (λ t. x ++ t) whole))
+  behind_one status.SinkFault x y z e writes = cut_behind x y z e writes
+  behind_one status.NoMemory x y z e writes = cut_behind x y z e writes
+  behind_one status.Usage x y z e writes = says_behind (fault_line status.Usage) x y z e writes
+  behind_one (status.BadLine line cause) x y z e writes = says_behind (fault_line (status.BadLine line cause)) x y z e writes
+  behind_one status.SourceFault x y z e writes = says_behind (fault_line status.SourceFault) x y z e writes
+  behind_one status.StoreFault x y z e writes = says_behind (fault_line status.StoreFault) x y z e writes
+  behind_one (status.Damaged damage) x y z e writes = says_behind (fault_line (status.Damaged damage)) x y z e writes
+  behind_one status.Unfinished x y z e writes = says_behind (fault_line status.Unfinished) x y z e writes
+  behind_one status.Exists x y z e writes = says_behind (fault_line status.Exists) x y z e writes
+  behind_one status.TooLarge x y z e writes = says_behind (fault_line status.TooLarge) x y z e writes
+
+  pub writes_behind : (result : Status) (a b c : Option (List ℕ)) → WhereTold a b (λ x y. y ≡ x ++ pushed) → WhereTold b c (ScanWrites result text mid sink') → WhereTold a c (ScanWrites result lines sink sink')
+  writes_behind result a b c one two = told_then a b c (λ x y. y ≡ x ++ pushed) (ScanWrites result text mid sink') (ScanWrites result lines sink sink') (behind_one result) one two
+
+-- ---- a refusal before any row
+
+nothing_passed : (file : List ℕ) → IsShown file (part [])
+nothing_passed file = (None, 0, record { onward = λ more stop walk. walk; only = λ every stop walk. (every, refl, walk) })
+
+pub nothing_shown : (files : Option Files) → IfSome files (λ m. IsShown (bytes_of m data_id) (part []))
+nothing_shown None = tt
+nothing_shown (Some m) = nothing_passed (bytes_of m data_id)
+
+pub nothing_written : (written : Option (List ℕ)) (sink : ℕ) → WhereTold written written (ScanWrites status.NoMemory [] sink sink)
+nothing_written None sink = tt
+nothing_written (Some x) sink = (0, omega arith, sym (append-nil x))
+
+-- the status, or want of memory
+either : (expected result : Status) → IsOrNoMemory expected result → (result ≡ expected) ⊎ (result ≡ status.NoMemory)
+either expected status.NoMemory is = inr refl
+either expected status.Ok is = inl is
+either expected status.Usage is = inl is
+either expected (status.BadLine line cause) is = inl is
+either expected status.SourceFault is = inl is
+either expected status.SinkFault is = inl is
+either expected status.StoreFault is = inl is
+either expected (status.Damaged damage) is = inl is
+either expected status.Unfinished is = inl is
+either expected status.Exists is = inl is
+either expected status.TooLarge is = inl is
+
+module _ (files : Option Files) (a b : Option (List ℕ)) (sink sink' : ℕ) where
+  no_memory : WhereTold a b (λ x y. y ≡ x) → Prints files a b sink sink' status.NoMemory
+  no_memory told = (part [], tt, nothing_shown files, told_map a b (λ x y. y ≡ x) (ScanWrites status.NoMemory [] sink sink') (λ x y e. (0, omega arith, e ∙ sym (append-nil x))) told)
+
+  says_first : (line x y : List ℕ) → Says line sink sink' x y → Says line sink sink' (x ++ []) y
+  says_first line x y says = subst (λ (s : List ℕ). Says line sink sink' s y) (sym (append-nil x)) says
+
+  no_store : WhereTold a b (Refuses status.StoreFault sink sink') → Prints files a b sink sink' status.StoreFault
+  no_store told = (part [], tt, nothing_shown files, told_map a b (Refuses status.StoreFault sink sink') (ScanWrites status.StoreFault [] sink sink') (says_first (fault_line status.StoreFault)) told)
+
+  no_schema : WhereTold a b (Refuses status.Unfinished sink sink') → Prints files a b sink sink' status.Unfinished
+  no_schema told = (part [], refl, nothing_shown files, told_map a b (Refuses status.Unfinished sink sink') (ScanWrites status.Unfinished [] sink sink') (says_first (fault_line status.Unfinished)) told)
+
+  pub refused : (expected result : Status) → (expected ≡ status.StoreFault) ⊎ (expected ≡ status.Unfinished) → IsOrNoMemory expected result → WhereTold a b (Refuses result sink sink') → Prints files a b sink sink' result
+  refused expected result which is told =
+      ⊎_elim (λ (e : result ≡ expected). ⊎_elim
+        (λ (w : expected ≡ status.StoreFault). let at : result ≡ status.StoreFault = e ∙ w in subst (λ (r : Status). Prints files a b sink sink' r) (sym at) (no_store (subst (λ (r : Status). WhereTold a b (Refuses r sink sink')) at told)))
+        (λ (w : expected ≡ status.Unfinished). let at : result ≡ status.Unfinished = e ∙ w in subst (λ (r : Status). Prints files a b sink sink' r) (sym at) (no_schema (subst (λ (r : Status). WhereTold a b (Refuses r sink sink')) at told))) which)
+      (λ (e : result ≡ status.NoMemory). subst (λ (r : Status). Prints files a b sink sink' r) (sym e) (no_memory (subst (λ (r : Status). WhereTold a b (Refuses r sink sink')) e told))) (either expected result is)
+
+-- ---- the end of the walk
+
+either_of : (expected result : Status) → IsEither expected result → (result ≡ expected) ⊎ ((result ≡ status.SinkFault) ⊎ (result ≡ status.NoMemory))
+either_of expected status.SinkFault is = inr (inl refl)
+either_of expected status.NoMemory is = inr (inr refl)
+either_of expected status.Ok is = inl is
+either_of expected status.Usage is = inl is
+either_of expected (status.BadLine line cause) is = inl is
+either_of expected status.SourceFault is = inl is
+either_of expected status.StoreFault is = inl is
+either_of expected (status.Damaged damage) is = inl is
+either_of expected status.Unfinished is = inl is
+either_of expected status.Exists is = inl is
+either_of expected status.TooLarge is = inl is
+
+-- a scan that came so far ends with its status, or with a fault of the sink or want of memory
+ends_either : (expected result : Status) (shown : Shown) → EndsScan expected shown → IsEither expected result → EndsScan result shown
+ends_either expected result shown ends is = ⊎_elim (λ (e : result ≡ expected). subst (λ (r : Status). EndsScan r shown) (sym e) ends)
+    (λ t. ⊎_elim (λ (e : result ≡ status.SinkFault). subst (λ (r : Status). EndsScan r shown) (sym e) tt) (λ (e : result ≡ status.NoMemory). subst (λ (r : Status). EndsScan r shown) (sym e) tt) t) (either_of expected result is)
+
+module _ (files : Option Files) (a b c : Option (List ℕ)) (sink mid sink' : ℕ) (before : sink ≤ mid) where
+  behind_shown : (shown : Shown) (pushed text : List ℕ) (expected result : Status) → EndsScan expected shown → IsEither expected result → IfSome files (λ m. IsShown (bytes_of m data_id) shown)
+      → pushed ++ text ≡ shown_text shown → WhereTold a b (λ x y. y ≡ x ++ pushed) → WhereTold b c (ScanWrites result text mid sink') → Prints files a c sink sink' result
+  behind_shown shown pushed text expected result ends is walk whole one two =
+      (shown, ends_either expected result shown ends is, walk, writes_behind pushed text (shown_text shown) whole sink mid sink' before result a b c one two)
+
+  pub end_whole : (scan : Scan) (result : Status) → Scanned files scan a b (Ok None) → IsEither status.Ok result → WhereTold b c (ScanWrites result (scan.text ++ count_line scan.rows) mid sink') → Prints files a c sink sink' result
+  end_whole scan result (pushed, entries, stops, text, count, one) is two =
+      let line : count_line scan.rows ≡ count_line (length entries) = ap count_line count in
+      behind_shown (all entries) pushed (scan.text ++ count_line scan.rows) status.Ok result tt is stops
+      (sym (append_assoc pushed scan.text (count_line scan.rows)) ∙ (ap (λ t. t ++ count_line scan.rows) text ∙ ap (λ t. entry_lines entries ++ t) line)) one two
+
+  pub end_damaged : (scan : Scan) (damage : Damage) (result : Status) → Scanned files scan a b (Ok (Some damage)) → IsEither (status.Damaged damage) result → WhereTold b c (ScanWrites result scan.text mid sink') → Prints files a c sink sink' result
+  end_damaged scan damage result (pushed, entries, stops, text, count, one) is two = behind_shown (cut entries damage) pushed scan.text (status.Damaged damage) result refl is stops text one two
+
+  pub end_stopped : (scan : Scan) (result : Status) → Scanned files scan a b (Err scan_error.StoreFault) → IsEither status.StoreFault result → WhereTold b c (ScanWrites result scan.text mid sink') → Prints files a c sink sink' result
+  end_stopped scan result (pushed, entries, walk, text, one) is two = behind_shown (part entries) pushed scan.text status.StoreFault result tt is walk text one two
+
+pub end_pushed : (files : Option Files) (a b : Option (List ℕ)) (sink sink' : ℕ) (scan : Scan) → Scanned files scan a b (Err scan_error.SinkFault) → Prints files a b sink sink' status.SinkFault
+end_pushed files a b sink sink' scan (entries, walk, told) = (part entries, tt, walk, told)
+
+pub end_memory : (files : Option Files) (a b : Option (List ℕ)) (sink sink' : ℕ) (scan : Scan) → Scanned files scan a b (Err scan_error.NoMemory) → Prints files a b sink sink' status.NoMemory
+end_memory files a b sink sink' scan (entries, walk, told) = (part entries, tt, walk, told)
+
+-- over the files as they were at first
+pub told_first : (now first : Option Files) (scan : Scan) (a b : Option (List ℕ)) (found result : Result (Option Damage) ScanError) → now ≡ first → found ≡ result → Scanned now scan a b found → Scanned first scan a b result
+told_first now first scan a b found result files same scanned = subst (λ (f : Option Files). Scanned f scan a b result) files (subst (λ (r : Result (Option Damage) ScanError). Scanned now scan a b r) same scanned)
+
+-- ---- the start
+
+starts : (fs : Option Files) (limit : ℕ) → IfSome fs (λ m. length (bytes_of m data_id) ≡ limit) → IfSome fs (λ m. Continues (bytes_of m data_id) (record { bytes = []; at = 0; limit = limit; whole = false })
+    × Passes first_types (bytes_of m data_id) None 0 [] None 0)
+starts None limit long = tt
+starts (Some m) limit long = (record { rest = bytes_of m data_id; is = refl; ended = λ e. cc; long = long }, record { onward = λ more stop walk. walk; only = λ every stop walk. (every, refl, walk) })
+
+pub fresh : (files : Option Files) (scan : Scan) (limit : ℕ) → scan.walk.window ≡ record { bytes = []; at = 0; limit = limit; whole = false } → inside_of scan.walk ≡ None → scan.text ≡ [] → scan.rows ≡ 0
+    → IfSome files (λ m. length (bytes_of m data_id) ≡ limit) → Holding files scan [] []
+fresh files scan limit window outside text rows long = record {
+  walked = subst (λ (w : Unread). IfSome files (λ m. Continues (bytes_of m data_id) w × Passes first_types (bytes_of m data_id) None 0 [] (inside_of scan.walk) w.at)) (sym window)
+      (subst (λ (o : Option (List ℕ)). IfSome files (λ m. Continues (bytes_of m data_id) (record { bytes = []; at = 0; limit = limit; whole = false }) × Passes first_types (bytes_of m data_id) None 0 [] o 0)) (sym outside) (starts files limit long));
+  text = text;
+  count = rows;
+}
+
+-- ---- Schema.txt
+
+whole_one : (file page : List ℕ) (n : ℕ) → length page ≡ 4096 → n ≡ min (length page) (length (drop 0 file)) → take n page ≡ take n (drop 0 file) → IsTrue (bytes_eq (take n page) schema_text) ↔ (file ≡ schema_text)
+whole_one file page n long count same =
+  let size : n ≡ min (length page) (length file) = count in (
+  (λ true. let is : take n page ≡ schema_text = (bytes_eq-Decides (take n page) schema_text).0 true in
+    let short : length (take n file) ≡ 30 = ap length (sym same ∙ is) in
+    sym (take_all n file (omega (arith, short, size, long, length-take n file))) ∙ (sym same ∙ is)),
+  (λ is. (bytes_eq-Decides (take n page) schema_text).1 (same ∙ (take_all n file (omega (arith, size, long, ap length is)) ∙ is)))
+)
+
+pub whole_told : (files : Option Files) (page : List ℕ) (n : ℕ) (equal : Bool) → length page ≡ 4096 → equal ≡ bytes_eq (take n page) schema_text
+    → IfSome files (λ m. (n ≡ min (length page) (length (drop 0 (bytes_of m schema_id)))) × (take n page ≡ take n (drop 0 (bytes_of m schema_id))) × (length (bytes_of m schema_id) < 2 ^ 62))
+    → IfSome files (λ m. IsTrue equal ↔ (bytes_of m schema_id ≡ schema_text))
+whole_told None page n equal long is read = tt
+whole_told (Some m) page n equal long is read = subst (λ (b : Bool). IsTrue b ↔ (bytes_of m schema_id ≡ schema_text)) (sym is) (whole_one (bytes_of m schema_id) page n long read.0 read.1)
+
+-- ---- files that stand for a map
+
+module _ (types : Types) (none_static : types.static_value ≡ None) where
+  -- the rows of a partition, its end, and what is behind it
+  rows_walk : (rows : List Row) (key tail : List ℕ) (entries : List Entry) → AreRows types rows → ((at : ℕ) → Walks types None at tail entries None)
+      → (at : ℕ) → Walks types (Some key) at ((rows_bytes rows ++ end_bytes) ++ tail) (row_entries key rows ++ entries) None
+  rows_walk [] key tail entries are next at = walks.closes at key (0 ∷ tail) tail entries None refl (next (at + 1))
+  rows_walk (r ∷ rows) key tail entries (is, are) next at =
+      let bytes : ((row_bytes r.clustering r.value ++ rows_bytes rows) ++ end_bytes) ++ tail ≡ row_bytes r.clustering r.value ++ ((rows_bytes rows ++ end_bytes) ++ tail) =
+          ap (λ b. b ++ tail) (append_assoc (row_bytes r.clustering r.value) (rows_bytes rows) end_bytes) ∙ append_assoc (row_bytes r.clustering r.value) (rows_bytes rows ++ end_bytes) tail in
+      walks.row at key r.clustering r.value (((row_bytes r.clustering r.value ++ rows_bytes rows) ++ end_bytes) ++ tail) ((rows_bytes rows ++ end_bytes) ++ tail) (row_entries key rows ++ entries) None is bytes
+      (rows_walk rows key tail entries are next (at + length (row_bytes r.clustering r.value)))
+
+  partitions_walk : (partitions : List Partition) → ArePartitions types partitions → (at : ℕ) → Walks types None at (data_bytes None partitions) (entries_in partitions) None
+  partitions_walk [] are at = walks.ends at
+  partitions_walk (p ∷ partitions) (is, fixed, rows, are) at =
+      let tail : List ℕ = data_bytes None partitions in
+      let bytes : (head_bytes p.key ++ (rows_bytes p.rows ++ end_bytes)) ++ tail ≡ head_bytes p.key ++ ((rows_bytes p.rows ++ end_bytes) ++ tail) =
+          append_assoc (head_bytes p.key) (rows_bytes p.rows ++ end_bytes) tail in
+      walks.head at p.key ((head_bytes p.key ++ (rows_bytes p.rows ++ end_bytes)) ++ tail) ((rows_bytes p.rows ++ end_bytes) ++ tail) (row_entries p.key p.rows ++ entries_in partitions) None is bytes
+      (rows_walk p.rows p.key tail (entries_in partitions) rows (partitions_walk partitions are) (at + length (head_bytes p.key)))
+
+stands_walk : (file : List ℕ) (rows : List Entry) → Holds first_types file rows → Walks first_types None 0 file rows None
+stands_walk file rows holds = subst (λ (b : List ℕ). Walks first_types None 0 b rows None) (sym holds.listed.0)
+    (subst (λ (es : List Entry). Walks first_types None 0 (data_bytes None holds.partitions) es None) holds.same (partitions_walk first_types refl holds.partitions holds.listed.1 0))
+
+-- a longer text has the prefix too
+prefix_longer : (text rest x y : List ℕ) → AppendsPrefix text x y → AppendsPrefix (text ++ rest) x y
+prefix_longer text rest x y (k, short, e) = (k, omega (arith, length-append text rest), e ∙ ap (λ t. x ++ t) (sym (take-append-le k text rest short)))
+
+rows_more : (rows front rest : List Entry) → rows ≡ front ++ rest → rows_text rows ≡ entry_lines front ++ (entry_lines rest ++ count_line (length rows))
+rows_more rows front rest e = ap (λ t. t ++ count_line (length rows)) (ap entry_lines e ∙ lines_append front rest) ∙ append_assoc (entry_lines front) (entry_lines rest) (count_line (length rows))
+
+module _ (file : List ℕ) (rows : List Entry) (walk : Walks first_types None 0 file rows None) where
+  part_rows : (front : List Entry) → IsShown file (part front) → (rest : List Entry) × (rows ≡ front ++ rest)
+  part_rows front (inside, at, passes) = let found = passes.only rows None walk in (found.0, found.1)
+
+  all_rows : (found : List Entry) → IsShown file (all found) → rows ≡ found
+  all_rows found stops = (stops.only rows None walk).0
+
+  no_cut : (found : List Entry) (damage : Damage) → IsShown file (cut found damage) → ⊥
+  no_cut found damage stops = let same : None ≡ Some damage = (stops.only rows None walk).1 in cc
+
+  prefix_of : (shown : Shown) (x y : List ℕ) → IsShown file shown → AppendsPrefix (shown_text shown) x y → AppendsPrefix (rows_text rows) x y
+  prefix_of (part front) x y is prefix = let found = part_rows front is in
+      subst (λ (t : List ℕ). AppendsPrefix t x y) (sym (rows_more rows front found.0 found.1)) (prefix_longer (entry_lines front) (entry_lines found.0 ++ count_line (length rows)) x y prefix)
+  prefix_of (all found) x y is prefix = subst (λ (es : List Entry). AppendsPrefix (rows_text es) x y) (sym (all_rows found is)) prefix
+  prefix_of (cut found damage) x y is prefix = absurd (no_cut found damage is)
+
+  prints_one : (result : Status) (shown : Shown) (sink sink' : ℕ) (x y : List ℕ) → EndsScan result shown → (result ≡ status.Unfinished → ⊥) → IsShown file shown
+      → ScanWrites result (shown_text shown) sink sink' x y → ScanPrints result rows sink sink' x y
+  prints_one status.Ok (all found) sink sink' x y ends sound is writes = subst (λ (es : List Entry). y ≡ x ++ rows_text es) (sym (all_rows found is)) writes
+  prints_one status.Ok (part found) sink sink' x y ends sound is writes = absurd ends
+  prints_one status.Ok (cut found damage) sink sink' x y ends sound is writes = absurd ends
+  prints_one status.SinkFault shown sink sink' x y ends sound is writes = prefix_of shown x y is writes
+  prints_one status.NoMemory shown sink sink' x y ends sound is writes = prefix_of shown x y is writes
+  prints_one status.StoreFault (part front) sink sink' x y ends sound is writes = let found = part_rows front is in (front, found.0, found.1, writes)
+  prints_one status.StoreFault (all found) sink sink' x y ends sound is writes = absurd ends
+  prints_one status.StoreFault (cut found damage) sink sink' x y ends sound is writes = absurd ends
+  prints_one (status.Damaged damage) (cut found place) sink sink' x y ends sound is writes = absurd (no_cut found place is)
+  prints_one (status.Damaged damage) (part found) sink sink' x y ends sound is writes = absurd ends
+  prints_one (status.Damaged damage) (all found) sink sink' x y ends sound is writes = absurd ends
+  prints_one status.Unfinished shown sink sink' x y ends sound is writes = absurd (sound refl)
+  prints_one status.Usage shown sink sink' x y ends sound is writes = absurd ends
+  prints_one (status.BadLine line cause) shown sink sink' x y ends sound is writes = absurd ends
+  prints_one status.SourceFault shown sink sink' x y ends sound is writes = absurd ends
+  prints_one status.Exists shown sink sink' x y ends sound is writes = absurd ends
+  prints_one status.TooLarge shown sink sink' x y ends sound is writes = absurd ends
+
+  ends_well : (result : Status) (shown : Shown) (store store' sink sink' : ℕ) → EndsScan result shown → (result ≡ status.Unfinished → ⊥) → IsShown file shown
+      → (result ≡ status.StoreFault → Rose store store') → (result ≡ status.SinkFault → Rose sink sink') → ¬ (Rose store store') → ¬ (Rose sink sink') → IsOrNoMemory status.Ok result
+  ends_well status.Ok shown store store' sink sink' ends sound is store_fault sink_fault quiet still = refl
+  ends_well status.NoMemory shown store store' sink sink' ends sound is store_fault sink_fault quiet still = tt
+  ends_well status.SinkFault shown store store' sink sink' ends sound is store_fault sink_fault quiet still = absurd (still (sink_fault refl))
+  ends_well status.StoreFault shown store store' sink sink' ends sound is store_fault sink_fault quiet still = absurd (quiet (store_fault refl))
+  ends_well (status.Damaged damage) (cut found place) store store' sink sink' ends sound is store_fault sink_fault quiet still = absurd (no_cut found place is)
+  ends_well (status.Damaged damage) (part found) store store' sink sink' ends sound is store_fault sink_fault quiet still = absurd ends
+  ends_well (status.Damaged damage) (all found) store store' sink sink' ends sound is store_fault sink_fault quiet still = absurd ends
+  ends_well status.Unfinished shown store store' sink sink' ends sound is store_fault sink_fault quiet still = absurd (sound refl)
+  ends_well status.Usage shown store store' sink sink' ends sound is store_fault sink_fault quiet still = absurd ends
+  ends_well (status.BadLine line cause) shown store store' sink sink' ends sound is store_fault sink_fault quiet still = absurd ends
+  ends_well status.SourceFault shown store store' sink sink' ends sound is store_fault sink_fault quiet still = absurd ends
+  ends_well status.Exists shown store store' sink sink' ends sound is store_fault sink_fault quiet still = absurd ends
+  ends_well status.TooLarge shown store store' sink sink' ends sound is store_fault sink_fault quiet still = absurd ends
+
+module _ (store store' : ℕ) (a b : Option (List ℕ)) (sink sink' : ℕ) (result : Status) (store_fault : result ≡ status.StoreFault → Rose store store') (sink_fault : result ≡ status.SinkFault → Rose sink sink') where
+  stand_all : (files : Option Files) → IfSome files (λ m. result ≡ status.Unfinished → bytes_of m schema_id ≢ schema_text) → Prints files a b sink sink' result
+      → IfSome files (λ m. (rows : List Entry) → StandFor m rows → WhereTold a b (ScanPrints result rows sink sink'))
+  stand_all None unfinished prints = tt
+  stand_all (Some m) unfinished (shown, ends, is, told) = λ rows stand.
+      told_map a b (ScanWrites result (shown_text shown) sink sink') (ScanPrints result rows sink sink')
+      (λ x y writes. prints_one (bytes_of m data_id) rows (stands_walk (bytes_of m data_id) rows stand.held) result shown sink sink' x y ends (λ u. unfinished u stand.schema) is writes) told
+
+  complete_all : (files : Option Files) → IfSome files (λ m. result ≡ status.Unfinished → bytes_of m schema_id ≢ schema_text) → Prints files a b sink sink' result
+      → IfSome files (λ m. (rows : List Entry) → StandFor m rows → ¬ (Rose store store') → ¬ (Rose sink sink') → IsOrNoMemory status.Ok result)
+  complete_all None unfinished prints = tt
+  complete_all (Some m) unfinished (shown, ends, is, told) = λ rows stand quiet still.
+      ends_well (bytes_of m data_id) rows (stands_walk (bytes_of m data_id) rows stand.held) result shown store store' sink sink' ends (λ u. unfinished u stand.schema) is store_fault sink_fault quiet still
+
+  pub scan_ends : (files : Option Files) → IfSome files (λ m. result ≡ status.Unfinished → bytes_of m schema_id ≢ schema_text) → IfSome files (λ m. bytes_of m schema_id ≢ schema_text → IsUnfinished result)
+      → Prints files a b sink sink' result → ScanEnds files store store' a b sink sink' result
+  scan_ends files unfinished whole prints = record {
+    store_fault = store_fault;
+    sink_fault = sink_fault;
+    unfinished = unfinished;
+    whole = whole;
+    rows = prints;
+    stand = stand_all files unfinished prints;
+    complete = complete_all files unfinished prints;
+  }
+
+-- ---- Schema.txt decides
+
+not_of : (expected result other : Status) → IsOrNoMemory expected result → (expected ≡ other → ⊥) → (status.NoMemory ≡ other → ⊥) → result ≡ other → ⊥
+not_of expected result other is apart memory e = ⊎_elim (λ (t : result ≡ expected). apart (sym t ∙ e)) (λ (t : result ≡ status.NoMemory). memory (sym t ∙ e)) (either expected result is)
+
+pub whole_schema : (files : Option Files) (whole : Bool) (result : Status) → whole ≡ true → IfSome files (λ m. IsTrue whole ↔ (bytes_of m schema_id ≡ schema_text))
+    → IfSome files (λ m. bytes_of m schema_id ≢ schema_text → IsUnfinished result)
+whole_schema None whole result is told = tt
+whole_schema (Some m) whole result is told = λ ne. absurd (ne (told.0 is))
+
+pub not_found : (files : Option Files) (result : Status) → (result ≡ status.Unfinished → ⊥) → IfSome files (λ m. result ≡ status.Unfinished → bytes_of m schema_id ≢ schema_text)
+not_found None result other = tt
+not_found (Some m) result other = λ is. absurd (other is)
+
+no_whole : (files : Option Files) (whole : Bool) (result : Status) → whole ≡ false → IfSome files (λ m. IsTrue whole ↔ (bytes_of m schema_id ≡ schema_text))
+    → IfSome files (λ m. result ≡ status.Unfinished → bytes_of m schema_id ≢ schema_text)
+no_whole None whole result is told = tt
+no_whole (Some m) whole result is told = λ u e. let both : true ≡ false = sym (told.1 e) ∙ is in cc
+
+allowed : (files : Option Files) (result : Status) → IsUnfinished result → IfSome files (λ m. bytes_of m schema_id ≢ schema_text → IsUnfinished result)
+allowed None result is = tt
+allowed (Some m) result is = λ ne. is
+
+is_allowed : (expected result : Status) → IsUnfinished expected → IsOrNoMemory expected result → IsUnfinished result
+is_allowed expected result allow is = ⊎_elim (λ (t : result ≡ expected). subst (λ (s : Status). IsUnfinished s) (sym t) allow) (λ (t : result ≡ status.NoMemory). subst (λ (s : Status). IsUnfinished s) (sym t) tt) (either expected result is)
+
+module _ (store store' : ℕ) (files : Option Files) (a b : Option (List ℕ)) (sink sink' : ℕ) (result : Status) (told : WhereTold a b (Refuses result sink sink')) where
+  pub unfinished_ends : (whole : Bool) → whole ≡ false → IfSome files (λ m. IsTrue whole ↔ (bytes_of m schema_id ≡ schema_text)) → IsOrNoMemory status.Unfinished result → ScanEnds files store store' a b sink sink' result
+  unfinished_ends whole torn schema is = scan_ends store store' a b sink sink' result
+      (λ e. absurd (not_of status.Unfinished result status.StoreFault is (λ t. cc) (λ t. cc) e)) (λ e. absurd (not_of status.Unfinished result status.SinkFault is (λ t. cc) (λ t. cc) e))
+      files (no_whole files whole result torn schema) (allowed files result (is_allowed status.Unfinished result tt is)) (refused files a b sink sink' status.Unfinished result (inr refl) is told)
+
+  pub fault_ends : Rose store store' → IsOrNoMemory status.StoreFault result → ScanEnds files store store' a b sink sink' result
+  fault_ends rose is = scan_ends store store' a b sink sink' result
+      (λ e. rose) (λ e. absurd (not_of status.StoreFault result status.SinkFault is (λ t. cc) (λ t. cc) e))
+      files (not_found files result (not_of status.StoreFault result status.Unfinished is (λ t. cc) (λ t. cc))) (allowed files result (is_allowed status.StoreFault result tt is)) (refused files a b sink sink' status.StoreFault result (inl refl) is told)

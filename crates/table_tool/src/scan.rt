@@ -1,0 +1,236 @@
+//! The command `scan`: the rows of the files.
+ghost use Rattle.std.specs.Prelude.{◌≡◌, ◌↔◌, ◌≤◌, ◌<◌, ◌^◌, ◌++◌, [], length, Option, IfOk, IfSome, IsTrue, Err, OnErr};
+ghost use Rattle.outside.specs.Causes.{Rose};
+ghost use Rattle.outside.specs.Files.{Files, bytes_of};
+ghost use Rattle.outside.specs.Told.{WhereTold};
+ghost use Rattle.data_file.specs.Types.{types_of};
+ghost use Rattle.table_tool.specs.Outcome.{AppendsPrefix, IsRefusal};
+ghost use Rattle.table_tool.specs.Printed.{count_line};
+ghost use Rattle.table_tool.specs.Scanned.{Holding, IsBounded, IsEither, Prints, Pushed, Scanned, TurnIs};
+ghost use Rattle.table_tool.specs.Scanning.{ScanEnds, ScanWrites};
+ghost use Rattle.table_tool.specs.Standing.{data_id, first_types, schema_id, schema_text};
+
+use crate::files::{DATA, SCHEMA, SCHEMA_TEXT};
+use crate::list::first_schema;
+use crate::printing::put_count;
+use crate::saying::{print, refuse};
+use crate::status::Status;
+use crate::walk::{Met, Walk};
+use crate::window::ReadError;
+use bti_nodes::Damage;
+use key_types::{ByteList, NoMemory, Schema};
+use outside::{Failed, Sink, Store};
+use std::alloc::Global;
+
+/// A text is pushed where it has at least so many bytes.
+const BLOCK: usize = 65_536;
+
+/// A scan: its walk, the text that isn't pushed yet, and the rows that it met.
+#[derive(Drop)]
+pub struct Scan {
+    pub walk: Walk,
+    pub text: ByteList,
+    pub rows: u64,
+}
+
+/// Whether a scan goes on.
+#[derive(Clone, Copy, Debug, PartialEq, Eq)]
+pub enum Turn {
+    On,
+    /// It is at the end of the file, or at damage.
+    Stopped(Option<Damage>),
+}
+
+/// Why a scan came neither to the end of the file nor to damage.
+#[derive(Clone, Copy, Debug, PartialEq, Eq)]
+pub enum ScanError {
+    StoreFault,
+    SinkFault,
+    NoMemory,
+}
+
+impl Scan {
+    /// Reads ahead, and goes over what stands next.
+    fn turn<K: Store>(
+        &mut self,
+        alloc: Global,
+        schema: &Schema,
+        store: &mut K,
+    ) -> Result<Turn, ReadError>
+        requires types { types_of schema.now ≡ first_types }
+        requires bounded { IsBounded self.old }
+        ensures turn { IfOk result (TurnIs (K.files store.old) self.old self.new) }
+        ensures bounded { IfOk result (λ turn. turn ≡ Turn.On → IsBounded self.new) }
+        ensures kept { result ≡ Err ReadError.StoreFault → self.new.text ≡ self.old.text }
+        ensures files { K.files store.new ≡ K.files store.old }
+        ensures later { K.faults store.old ≤ K.faults store.new }
+        ensures fault { result ≡ Err ReadError.StoreFault → Rose (K.faults store.old) (K.faults store.new) }
+    {
+        self.walk.window.fill(alloc, store, DATA)?;
+        match self.walk.step(schema, &mut self.text)? {
+            Met::Row => {
+                self.rows += 1;
+                Ok(Turn::On)
+            }
+            Met::Border => Ok(Turn::On),
+            Met::End => Ok(Turn::Stopped(None)),
+            Met::Damaged(damage) => Ok(Turn::Stopped(Some(damage))),
+        }
+    }
+
+    /// Pushes the text where there is enough of it.
+    fn push_block<O: Sink>(&mut self, out: &mut O) -> Result<(), Failed>
+        ensures pushed { IfOk result (λ _. Pushed self.old.text self.new.text (O.written out.old) (O.written out.new)) }
+        ensures cut { OnErr result (WhereTold (O.written out.old) (O.written out.new) (AppendsPrefix self.old.text)) }
+        ensures walk { self.new.walk ≡ self.old.walk }
+        ensures rows { self.new.rows ≡ self.old.rows }
+        ensures later { O.faults out.old ≤ O.faults out.new }
+        ensures fault { OnErr result (Rose (O.faults out.old) (O.faults out.new)) }
+    {
+        if self.text.len() < BLOCK {
+            return Ok(());
+        }
+        out.push(self.text.as_slice())?;
+        self.text.truncate(0);
+        Ok(())
+    }
+
+    /// Turns until the walk stops or something fails. Ok is the damage where it stopped, or `None` at the end of the file.
+    fn turn_all<O: Sink, K: Store>(
+        &mut self,
+        alloc: Global,
+        schema: &Schema,
+        out: &mut O,
+        store: &mut K,
+    ) -> Result<Option<Damage>, ScanError>
+        requires types { types_of schema.now ≡ first_types }
+        requires bounded { IsBounded self.old }
+        requires fresh { Holding (K.files store.old) self.old [] [] }
+        ensures scanned { Scanned (K.files store.old) self.new (O.written out.old) (O.written out.new) result }
+        ensures files { K.files store.new ≡ K.files store.old }
+        ensures store_later { K.faults store.old ≤ K.faults store.new }
+        ensures store_fault { result ≡ Err ScanError.StoreFault → Rose (K.faults store.old) (K.faults store.new) }
+        ensures later { O.faults out.old ≤ O.faults out.new }
+        ensures fault { result ≡ Err ScanError.SinkFault → Rose (O.faults out.old) (O.faults out.new) }
+    {
+        'turns: loop {
+            match self.turn(alloc, schema, store) {
+                Ok(Turn::On) => {}
+                Ok(Turn::Stopped(stop)) => return Ok(stop),
+                Err(ReadError::StoreFault) => return Err(ScanError::StoreFault),
+                Err(ReadError::NoMemory) => return Err(ScanError::NoMemory),
+            }
+            match self.push_block(out) {
+                Ok(()) => {}
+                Err(Failed) => return Err(ScanError::SinkFault),
+            }
+        }
+    }
+
+    /// Pushes what is left of the text, and the last line.
+    fn end<O: Sink>(&mut self, out: &mut O) -> Status
+        ensures told { WhereTold (O.written out.old) (O.written out.new)
+            (ScanWrites result (self.old.text ++ count_line self.old.rows) (O.faults out.old) (O.faults out.new)) }
+        ensures cases { IsEither Status.Ok result }
+        ensures later { O.faults out.old ≤ O.faults out.new }
+        ensures fault { result ≡ Status.SinkFault → Rose (O.faults out.old) (O.faults out.new) }
+    {
+        match put_count(&mut self.text, self.rows) {
+            Ok(()) => print(out, self.text.as_slice()),
+            Err(NoMemory) => Status::NoMemory,
+        }
+    }
+
+    /// Pushes what is left of the text, and the line of a refusal behind it.
+    fn end_early<O: Sink>(&self, alloc: Global, out: &mut O, status: Status) -> Status
+        requires { IsRefusal status }
+        ensures told { WhereTold (O.written out.old) (O.written out.new) (ScanWrites result self.now.text (O.faults out.old) (O.faults out.new)) }
+        ensures cases { IsEither status result }
+        ensures later { O.faults out.old ≤ O.faults out.new }
+        ensures fault { result ≡ Status.SinkFault → Rose (O.faults out.old) (O.faults out.new) }
+    {
+        match out.push(self.text.as_slice()) {
+            Ok(()) => refuse(alloc, out, status),
+            Err(Failed) => Status::SinkFault,
+        }
+    }
+
+    /// A scan of a file of this length, at its start.
+    fn new(alloc: Global, limit: u64) -> Scan
+        requires { limit < 2 ^ 62 }
+        ensures bounded { IsBounded result }
+        ensures fresh { (files : Option Files) → IfSome files (λ m. length (bytes_of m data_id) ≡ limit) → Holding files result [] [] }
+    {
+        Scan {
+            walk: Walk::new(alloc, limit),
+            text: ByteList::new(alloc),
+            rows: 0,
+        }
+    }
+}
+
+/// Whether Schema.txt is there and whole.
+fn is_whole<K: Store>(store: &mut K) -> Result<bool, Failed>
+    ensures told { IfSome (K.files store.old) (λ m. IfOk result (λ whole. IsTrue whole ↔ (bytes_of m schema_id ≡ schema_text))) }
+    ensures files { K.files store.new ≡ K.files store.old }
+    ensures later { K.faults store.old ≤ K.faults store.new }
+    ensures fault { OnErr result (Rose (K.faults store.old) (K.faults store.new)) }
+{
+    let mut page = [0u8; 4096];
+    let count = store.read(SCHEMA, 0, &mut page)?;
+    Ok(&page[..count] == SCHEMA_TEXT)
+}
+
+/// The length of Data.db, 0 where it is not there.
+fn data_length<K: Store>(store: &mut K) -> Result<u64, Failed>
+    ensures told { IfSome (K.files store.old) (λ m. IfOk result (λ n. length (bytes_of m data_id) ≡ n)) }
+    ensures limit { IfOk result (λ n. n < 2 ^ 62) }
+    ensures files { K.files store.new ≡ K.files store.old }
+    ensures later { K.faults store.old ≤ K.faults store.new }
+    ensures fault { OnErr result (Rose (K.faults store.old) (K.faults store.new)) }
+{
+    match store.size(DATA)? {
+        Some(length) => Ok(length),
+        None => Ok(0),
+    }
+}
+
+/// Prints the rows of Data.db.
+fn scan_rows<O: Sink, K: Store>(alloc: Global, out: &mut O, store: &mut K) -> Status
+    ensures rows { Prints (K.files store.old) (O.written out.old) (O.written out.new) (O.faults out.old) (O.faults out.new) result }
+    ensures not_unfinished { ¬ (result ≡ Status.Unfinished) }
+    ensures files { K.files store.new ≡ K.files store.old }
+    ensures store_later { K.faults store.old ≤ K.faults store.new }
+    ensures store_fault { result ≡ Status.StoreFault → Rose (K.faults store.old) (K.faults store.new) }
+    ensures later { O.faults out.old ≤ O.faults out.new }
+    ensures sink_fault { result ≡ Status.SinkFault → Rose (O.faults out.old) (O.faults out.new) }
+{
+    let Ok(limit) = data_length(store) else {
+        return refuse(alloc, out, Status::StoreFault);
+    };
+    let Ok(schema) = first_schema(alloc) else {
+        return Status::NoMemory;
+    };
+    let mut scan = Scan::new(alloc, limit);
+    match scan.turn_all(alloc, &schema, out, store) {
+        Ok(None) => scan.end(out),
+        Ok(Some(damage)) => scan.end_early(alloc, out, Status::Damaged(damage)),
+        Err(ScanError::StoreFault) => scan.end_early(alloc, out, Status::StoreFault),
+        Err(ScanError::SinkFault) => Status::SinkFault,
+        Err(ScanError::NoMemory) => Status::NoMemory,
+    }
+}
+
+/// Does `scan`.
+pub fn scan_table<O: Sink, K: Store>(alloc: Global, out: &mut O, store: &mut K) -> Status
+    ensures ends { ScanEnds (K.files store.old) (K.faults store.old) (K.faults store.new)
+        (O.written out.old) (O.written out.new) (O.faults out.old) (O.faults out.new) result }
+    ensures files { K.files store.new ≡ K.files store.old }
+    ensures not_usage { ¬ (result ≡ Status.Usage) }
+{
+    match is_whole(store) {
+        Ok(true) => scan_rows(alloc, out, store),
+        Ok(false) => refuse(alloc, out, Status::Unfinished),
+        Err(Failed) => refuse(alloc, out, Status::StoreFault),
+    }
+}

@@ -1,0 +1,178 @@
+//! A file, read ahead in pages.
+ghost use Rattle.std.specs.Prelude.{◌≡◌, ◌≤◌, ◌+◌, ◌<◌, ◌^◌, [], true, false, drop, length, IfOk, IfSome, Err};
+ghost use Rattle.outside.specs.Causes.{Rose};
+ghost use Rattle.outside.specs.Files.{bytes_of};
+ghost use Rattle.table_tool.specs.Window.{Continues, IsFull};
+
+use key_types::{ByteList, NoMemory};
+use outside::{Failed, FileId, Store};
+use std::alloc::Global;
+use std::marker::Model;
+
+const PAGE: usize = 4096;
+
+/// A window is read ahead where it has fewer bytes than the longest row.
+const ENOUGH: usize = 66_564;
+
+/// A window is read ahead to so many bytes.
+const AHEAD: usize = 262_144;
+
+/// Why a window isn't read ahead.
+#[derive(Clone, Copy, Debug, PartialEq, Eq)]
+pub enum ReadError {
+    StoreFault,
+    NoMemory,
+}
+
+impl From<NoMemory> for ReadError {
+    ghost use Rattle.table_tool.specs.declared.window.ReadError.TheVariants as read_error;
+
+    ghost from_gives = { λ _ e. e ≡ read_error.NoMemory };
+
+    fn from(_e: NoMemory) -> ReadError {
+        ReadError::NoMemory
+    }
+}
+
+impl From<Failed> for ReadError {
+    ghost use Rattle.table_tool.specs.declared.window.ReadError.TheVariants as read_error;
+
+    ghost from_gives = { λ _ e. e ≡ read_error.StoreFault };
+
+    fn from(_e: Failed) -> ReadError {
+        ReadError::StoreFault
+    }
+}
+
+/// The bytes of a file from a place on that were read and are not yet used. Contracts see it as `Unread`.
+#[derive(Drop)]
+pub struct Window {
+    bytes: ByteList,
+    used: usize,
+    at: u64,
+    limit: u64,
+    whole: bool,
+}
+
+impl Model for Window {
+    ghost use Rattle.std.specs.Prelude.{◌≤◌, ◌<◌, ◌+◌, ◌^◌, drop, length};
+    ghost use Rattle.table_tool.specs.Window.{Unread};
+
+    ghost Value = { Unread };
+
+    ghost view = { λ w. record { bytes = drop w.used w.bytes; at = w.at; limit = w.limit; whole = w.whole } };
+
+    ghost invariant = { λ w. (w.used ≤ length w.bytes) × (w.at + length (drop w.used w.bytes) ≤ w.limit) × (w.limit < 2 ^ 62) };
+}
+
+impl Window {
+    /// The window at the start of a file of this length of which nothing was read.
+    pub fn new(alloc: Global, limit: u64) -> Window
+        requires { limit < 2 ^ 62 }
+        ensures { result ≡ record { bytes = []; at = 0; limit = limit; whole = false } }
+    {
+        Window {
+            bytes: ByteList::new(alloc),
+            used: 0,
+            at: 0,
+            limit,
+            whole: false,
+        }
+    }
+
+    /// The unused bytes.
+    pub fn unread(&self) -> &[u8]
+        ensures bytes { result.now ≡ self.now.bytes }
+        ensures inside { self.now.at + length result.now ≤ self.now.limit }
+        ensures limit { self.now.limit < 2 ^ 62 }
+    {
+        let (_, unread) = self.bytes.as_slice().split_at(self.used);
+        unread
+    }
+
+    /// The place of the first unused byte.
+    pub fn at(&self) -> u64
+        ensures { result ≡ self.now.at }
+    {
+        self.at
+    }
+
+    /// Uses so many bytes up.
+    pub fn pass(&mut self, count: usize)
+        requires { count ≤ length self.old.bytes }
+        ensures { self.new ≡ record { bytes = drop count self.old.bytes; at = self.old.at + count; limit = self.old.limit; whole = self.old.whole } }
+    {
+        let length = self.bytes.len();
+        self.used = length.min(self.used + count);
+        self.at += count as u64;
+    }
+
+    /// Lets the used bytes go.
+    fn compact(&mut self, alloc: Global) -> Result<(), NoMemory>
+        ensures { self.new ≡ self.old }
+    {
+        let mut bytes = ByteList::new(alloc);
+        bytes.extend(self.unread())?;
+        self.bytes = bytes;
+        self.used = 0;
+        Ok(())
+    }
+
+    /// Reads the next page of the file behind the unused bytes, and says whether there was one.
+    fn read_page<K: Store>(
+        &mut self,
+        store: &mut K,
+        file: FileId,
+        page: &mut [u8; PAGE],
+    ) -> Result<bool, ReadError>
+        ensures told {
+            IfSome (K.files store.old) (λ m. Continues (bytes_of m file) self.old → IfOk result (λ _. Continues (bytes_of m file) self.new))
+        }
+        ensures more { IfOk result (λ more. more ≡ true → length self.old.bytes < length self.new.bytes) }
+        ensures end { IfOk result (λ more. more ≡ false → self.new.whole ≡ true) }
+        ensures place { self.new.at ≡ self.old.at }
+        ensures limit { self.new.limit ≡ self.old.limit }
+        ensures files { K.files store.new ≡ K.files store.old }
+        ensures later { K.faults store.old ≤ K.faults store.new }
+        ensures fault { result ≡ Err ReadError.StoreFault → Rose (K.faults store.old) (K.faults store.new) }
+    {
+        let end = self.at + self.unread().len() as u64;
+        let found = store.read(file, end, page)?;
+        let count = found.min((self.limit - end) as usize);
+        if count == 0 {
+            self.whole = true;
+            return Ok(false);
+        }
+        self.bytes.extend(&page[..count])?;
+        Ok(true)
+    }
+
+    /// Reads the file ahead, until the longest row is among the unused bytes or the file ends behind them.
+    pub fn fill<K: Store>(
+        &mut self,
+        alloc: Global,
+        store: &mut K,
+        file: FileId,
+    ) -> Result<(), ReadError>
+        ensures told {
+            IfSome (K.files store.old) (λ m. Continues (bytes_of m file) self.old → IfOk result (λ _. Continues (bytes_of m file) self.new))
+        }
+        ensures full { IfOk result (λ _. IsFull self.new) }
+        ensures place { self.new.at ≡ self.old.at }
+        ensures limit { self.new.limit ≡ self.old.limit }
+        ensures files { K.files store.new ≡ K.files store.old }
+        ensures later { K.faults store.old ≤ K.faults store.new }
+        ensures fault { result ≡ Err ReadError.StoreFault → Rose (K.faults store.old) (K.faults store.new) }
+    {
+        if self.whole || self.unread().len() >= ENOUGH {
+            return Ok(());
+        }
+        self.compact(alloc)?;
+        let mut page = [0u8; PAGE];
+        'pages: loop {
+            if !self.read_page(store, file, &mut page)? || self.unread().len() >= AHEAD {
+                return Ok(());
+            }
+        }
+    }
+}
