@@ -6,4 +6,6 @@ pub mod Input
 pub mod Listing
 pub mod FaultLine
 pub mod Outcome
+pub mod Grouping
+pub mod Loading
 pub mod Numbers

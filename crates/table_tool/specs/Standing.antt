@@ -1,5 +1,5 @@
 -- The files that stand for a map: what they hold, and of which rows. The layout of the files is this project's own.
-use Rattle.std.specs.Prelude.{◌≡◌, ◌≢◌, ℕ, List, [], ◌∷◌, ◌++◌, map, codes, Option, None, Some}
+use Rattle.std.specs.Prelude.{◌≡◌, ◌≢◌, ℕ, List, [], ◌∷◌, ◌++◌, map, codes, None}
 use Rattle.std.specs.declared.cmp.Ordering.TheVariants.{Less}
 use Rattle.key_types.specs.Kinds.{more, int, end}
 use Rattle.key_types.specs.Table.{Entry, string_cmp}
@@ -69,5 +69,5 @@ pub record Holds (types : Types) (bytes : List ℕ) (entries : List Entry) : Typ
 
 -- Data.db holds the entries, and Schema.txt is whole
 pub record StandFor (files : Files) (entries : List Entry) : Type 0 where
-  pub data : Holds first_types (bytes_of files data_id) entries
+  pub held : Holds first_types (bytes_of files data_id) entries
   pub schema : bytes_of files schema_id ≡ schema_text

@@ -2,12 +2,16 @@
 #![tactic(auto)]
 
 mod fault_line;
+mod files;
+mod flush;
 mod input;
 mod laws;
 mod list;
+mod load;
 mod numbers;
 mod printing;
 mod request;
+mod saying;
 mod status;
 mod table;
 mod tool;

@@ -1,46 +1,17 @@
 //! The top calls.
-ghost use Rattle.std.specs.Prelude.{◌≡◌, ◌≤◌, ◌⊎◌};
+ghost use Rattle.std.specs.Prelude.{◌≡◌};
 ghost use Rattle.outside.specs.Told.{WhereTold};
-ghost use Rattle.outside.specs.Causes.{Rose};
 ghost use Rattle.table_tool.specs.Request.{AreRefused, AskList};
-ghost use Rattle.table_tool.specs.Outcome.{ListEnds, Refuses, Prints, IsOrNoMemory, IsRefusal};
+ghost use Rattle.table_tool.specs.Outcome.{ListEnds, Refuses, IsOrNoMemory};
 
-use crate::fault_line::fault_line;
 use crate::list::list_source;
 use crate::request::{Request, read_request};
+use crate::saying::{print, refuse};
 use crate::status::Status;
 use command_line::WordsError;
-use outside::{Failed, Gate, Sink, Source, Store};
+use outside::{Gate, Sink, Source, Store};
 use std::alloc::Global;
 use std::thread::Threads;
-
-/// Pushes the line of a refusal, and answers its status.
-fn refuse<O: Sink>(alloc: Global, out: &mut O, status: Status) -> Status
-    requires { IsRefusal status }
-    ensures status { IsOrNoMemory status result }
-    ensures told { WhereTold (O.written out.old) (O.written out.new) (Refuses result (O.faults out.old) (O.faults out.new)) }
-    ensures later { O.faults out.old ≤ O.faults out.new }
-{
-    let Ok(line) = fault_line(alloc, status) else {
-        return Status::NoMemory;
-    };
-    match out.push(line.as_slice()) {
-        Ok(()) | Err(Failed) => status,
-    }
-}
-
-/// Pushes a text, and answers Ok or a fault of the sink.
-fn print<O: Sink>(out: &mut O, text: &[u8]) -> Status
-    ensures cases { result ≡ Status.Ok ⊎ result ≡ Status.SinkFault }
-    ensures told { WhereTold (O.written out.old) (O.written out.new) (Prints text.now result) }
-    ensures later { O.faults out.old ≤ O.faults out.new }
-    ensures fault { result ≡ Status.SinkFault → Rose (O.faults out.old) (O.faults out.new) }
-{
-    match out.push(text) {
-        Ok(()) => Status::Ok,
-        Err(Failed) => Status::SinkFault,
-    }
-}
 
 /// Does `list`.
 fn list<S: Source, O: Sink>(alloc: Global, source: &mut S, out: &mut O) -> Status
