@@ -1,15 +1,16 @@
 -- The files of a table, put into a store one behind the other.
-use Rattle.std.proofs.Common.{◌≡◌, ◌≢◌, ℕ, ◌<◌, ◌^◌, Bool, true, false, ◌||◌, List, [], ◌++◌, length, take, Option, None, Some, Result, Ok, Err, IsErr, IfSome, inl, inr, unwrap_or, refl, sym, ◌∙◌, ap, subst, arith}
+use Rattle.std.proofs.Common.{◌≡◌, ◌≢◌, ℕ, ◌<◌, ◌^◌, Bool, true, false, ◌||◌, List, [], ◌++◌, length, take, drop, Option, None, Some, Result, Ok, Err, IsErr, IfSome, inl, inr, unwrap_or, refl, sym, ◌∙◌, ap, subst, arith}
+use Rattle.std.proofs.lemmas.List.{take-append-drop}
 use Rattle.std.specs.Prelude.{is_some}
 use Rattle.std.specs.FinMap as map
 use Rattle.outside.specs.Told.{WhereTold}
 use Rattle.outside.specs.Files.{Files, LeavesPrefix, bytes_of, place_of}
 use Rattle.outside.specs.declared.store.FileId.{FileId}
 use Rattle.key_types.specs.Table.{Entry}
-use Rattle.data_file.specs.Writing.{Grown, PutsAllBut}
+use Rattle.data_file.specs.Writing.{PutsAllBut}
 use Rattle.table_tool.specs.Standing.{data_id, partitions_id, rows_id, schema_id, schema_text, first_types, Holds, StandFor}
-use Rattle.table_tool.specs.Loading.{Adds, Flushes, KeepsOthers, NoneThere, is_there, one_there}
-use Rattle.table_tool.proofs.Writes.{PutSome, Set, bytes_of-other, bytes_of-same, get-other, told_so, told_then}
+use Rattle.table_tool.specs.Loading.{Adds, Begun, Flushes, NoneThere, Reaches, Started, is_there, one_there}
+use Rattle.table_tool.proofs.Writes.{PutSome, Set, bytes_of-other, bytes_of-same, told_so, told_then}
 
 schema_apart : schema_id ≢ data_id
 schema_apart e = let no : ◌≡◌ {A = ℕ} 3 0 = ap (λ (f : FileId). place_of f.part) e in omega arith
@@ -17,37 +18,20 @@ schema_apart e = let no : ◌≡◌ {A = ℕ} 3 0 = ap (λ (f : FileId). place_o
 data_apart : data_id ≢ schema_id
 data_apart e = schema_apart (sym e)
 
--- ---- nothing but the two files changes
+-- ---- a prefix of them
 
-grown_keeps : (xs ys : Files) (file : FileId) (bytes : List ℕ) (other : FileId) → other ≢ file → Grown xs ys file bytes → map.get ys other ≡ map.get xs other
-grown_keeps xs ys file bytes other apart (inl is) = ap (λ (m : Files). map.get m other) is ∙ get-other xs file (bytes_of xs file ++ bytes) other apart
-grown_keeps xs ys file bytes other apart (inr (none, is)) = ap (λ (m : Files). map.get m other) is
-
-put_keeps : (xs ys : Files) (bytes left : List ℕ) → PutsAllBut xs ys data_id bytes left → KeepsOthers xs ys
-put_keeps xs ys bytes left p = λ other not_data not_schema. grown_keeps xs ys data_id p.0 other not_data p.2
-
-pub some_keeps : (f0 f1 : Option Files) (bytes : List ℕ) → PutSome f0 f1 data_id bytes → WhereTold f0 f1 KeepsOthers
-some_keeps f0 f1 bytes some = told_so f0 f1 _ _ (λ xs ys p. put_keeps xs ys bytes p.0 p.1) some
-
-set_keeps : (xs ys : Files) (bytes : List ℕ) → ys ≡ map.insert xs data_id bytes → KeepsOthers xs ys
-set_keeps xs ys bytes is = λ other not_data not_schema. ap (λ (m : Files). map.get m other) is ∙ get-other xs data_id bytes other not_data
-
-prefix_keeps : (ys zs : Files) (piece : List ℕ) → LeavesPrefix ys zs schema_id piece → KeepsOthers ys zs
-prefix_keeps ys zs piece (inl is) = λ other not_data not_schema. ap (λ (m : Files). map.get m other) is
-prefix_keeps ys zs piece (inr (k, few, is)) = λ other not_data not_schema.
-    ap (λ (m : Files). map.get m other) is ∙ get-other ys schema_id (bytes_of ys schema_id ++ take k piece) other not_schema
-
-keeps_both : (xs ys zs : Files) → KeepsOthers xs ys → KeepsOthers ys zs → KeepsOthers xs zs
-keeps_both xs ys zs first second = λ other not_data not_schema. second other not_data not_schema ∙ first other not_data not_schema
+-- the file of the data failed
+pub data_stopped : (f0 f1 : Option Files) (bytes : List ℕ) → PutSome f0 f1 data_id bytes → WhereTold f0 f1 (Reaches bytes)
+data_stopped f0 f1 bytes some = told_so f0 f1 _ _ (λ xs ys p. inl p) some
 
 -- the file of the schema failed
-pub schema_failed : (f0 f1 f2 : Option Files) (bytes piece : List ℕ) → Set f0 f1 data_id bytes → WhereTold f1 f2 (λ ys zs. LeavesPrefix ys zs schema_id piece) → WhereTold f0 f2 KeepsOthers
-schema_failed f0 f1 f2 bytes piece set append =
-    told_then f0 f1 f2 _ _ _ (λ xs ys zs p q. keeps_both xs ys zs (set_keeps xs ys (bytes_of xs data_id ++ bytes) p) (prefix_keeps ys zs piece q)) set append
+pub schema_stopped : (f0 f1 f2 : Option Files) (bytes : List ℕ) → Set f0 f1 data_id bytes → WhereTold f1 f2 (λ ys zs. LeavesPrefix ys zs schema_id schema_text) → WhereTold f0 f2 (Reaches bytes)
+schema_stopped f0 f1 f2 bytes set append =
+    told_then f0 f1 f2 _ _ _ (λ xs ys zs p q. inr (subst (λ (m : Files). LeavesPrefix m zs schema_id schema_text) p q)) set append
 
-pub failed_flush : {T E : Type 0} (f0 f1 : Option Files) (r : Result T E) (bytes : List ℕ) → IsErr r → WhereTold f0 f1 KeepsOthers → Flushes f0 f1 r bytes
-failed_flush f0 f1 (Ok x) bytes bad keeps = cc
-failed_flush f0 f1 (Err e) bytes bad keeps = keeps
+pub failed_flush : {T E : Type 0} (f0 f1 : Option Files) (r : Result T E) (bytes : List ℕ) → IsErr r → WhereTold f0 f1 (Reaches bytes) → Flushes f0 f1 r bytes
+failed_flush f0 f1 (Ok x) bytes bad stopped = cc
+failed_flush f0 f1 (Err e) bytes bad stopped = stopped
 
 -- ---- both files
 
@@ -66,15 +50,6 @@ pub flushed : (f0 f1 f2 : Option Files) (bytes : List ℕ) → Set f0 f1 data_id
     → WhereTold f1 f2 (λ ys zs. (zs ≡ map.insert ys schema_id (bytes_of ys schema_id ++ schema_text)) × (length (bytes_of ys schema_id ++ schema_text) < 2 ^ 62))
     → WhereTold f0 f2 (Sets bytes)
 flushed f0 f1 f2 bytes set append = told_then f0 f1 f2 _ _ _ (λ xs ys zs p q. both_set xs ys zs bytes p q.0) set append
-
-sets_keeps : (xs zs : Files) (bytes : List ℕ) → Sets bytes xs zs → KeepsOthers xs zs
-sets_keeps xs zs bytes is = λ other not_data not_schema.
-    ap (λ (m : Files). map.get m other) is
-    ∙ get-other (map.insert xs data_id (bytes_of xs data_id ++ bytes)) schema_id (bytes_of xs schema_id ++ schema_text) other not_schema
-    ∙ get-other xs data_id (bytes_of xs data_id ++ bytes) other not_data
-
-pub flushed_keeps : (f0 f1 : Option Files) (bytes : List ℕ) → WhereTold f0 f1 (Sets bytes) → WhereTold f0 f1 KeepsOthers
-flushed_keeps f0 f1 bytes sets = told_so f0 f1 _ _ (λ xs zs p. sets_keeps xs zs bytes p) sets
 
 -- ---- where none was there
 
@@ -116,6 +91,37 @@ sets_adds bytes old new none is =
 
 pub added : (f0 f1 : Option Files) (bytes : List ℕ) → NoneThere f0 → WhereTold f0 f1 (Sets bytes) → WhereTold f0 f1 (Adds bytes)
 added f0 f1 bytes none sets = told_from f0 f1 _ _ _ (λ old new p q. sets_adds bytes old new p q) none sets
+
+-- ---- how far they came, where none was there
+
+data_started : (bytes : List ℕ) (old new : Files) (left : List ℕ) → one_there old ≡ false → PutsAllBut old new data_id bytes left → Started data_id bytes old new
+data_started bytes old new left none (front, e, inl is) = inr (front, left, e, is ∙ ap (λ (bs : List ℕ). map.insert old data_id (bs ++ front)) (no_data old none))
+data_started bytes old new left none (front, e, inr (nothing, same)) = inl same
+
+schema_started : (bytes : List ℕ) (old new : Files) → one_there old ≡ false → LeavesPrefix (map.insert old data_id bytes) new schema_id schema_text
+    → Started schema_id schema_text (map.insert old data_id bytes) new
+schema_started bytes old new none (inl same) = inl same
+schema_started bytes old new none (inr (k, few, is)) =
+    let made : Files = map.insert old data_id bytes in
+    inr (
+      take k schema_text,
+      drop k schema_text,
+      sym (take-append-drop k schema_text),
+      is ∙ ap (λ (bs : List ℕ). map.insert made schema_id (bs ++ take k schema_text)) (bytes_of-other old data_id bytes schema_id schema_apart ∙ no_schema old none),
+    )
+
+reaches_begins : (bytes : List ℕ) (old new : Files) → one_there old ≡ false → Reaches bytes old new → Begun bytes old new
+reaches_begins bytes old new none (inl (left, put)) = inl (data_started bytes old new left none put)
+reaches_begins bytes old new none (inr put) =
+    inr (schema_started bytes old new none (subst (λ (bs : List ℕ). LeavesPrefix (map.insert old data_id (bs ++ bytes)) new schema_id schema_text) (no_data old none) put))
+
+pub reached : (f0 f1 : Option Files) (bytes : List ℕ) → NoneThere f0 → WhereTold f0 f1 (Reaches bytes) → WhereTold f0 f1 (Begun bytes)
+reached f0 f1 bytes none reaches = told_from f0 f1 _ _ _ (λ old new p q. reaches_begins bytes old new p q) none reaches
+
+pub adds_begin : (f0 f1 : Option Files) (bytes : List ℕ) → WhereTold f0 f1 (Adds bytes) → WhereTold f0 f1 (Begun bytes)
+adds_begin f0 f1 bytes adds = told_so f0 f1 _ _ (λ old new is. inr (inr (schema_text, [], refl, is))) adds
+
+-- ---- they stand
 
 stands : (bytes : List ℕ) (entries : List Entry) (old new : Files) → Holds first_types bytes entries → Adds bytes old new → StandFor new entries
 stands bytes entries old new held is = record {

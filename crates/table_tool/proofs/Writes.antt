@@ -109,7 +109,7 @@ told_so None (Some y) P R step p = absurd p
 told_so (Some x) None P R step p = absurd p
 told_so (Some x) (Some y) P R step p = step x y p
 
-told_none : {A : Type 0} (f : Option A) (P : A → A → Type 0) → ((x : A) → P x x) → WhereTold f f P
+pub told_none : {A : Type 0} (f : Option A) (P : A → A → Type 0) → ((x : A) → P x x) → WhereTold f f P
 told_none None P same = tt
 told_none (Some x) P same = same x
 

@@ -1,11 +1,12 @@
 -- How `load` ends, what it leaves in the store, and what it writes. This project's own.
-use Rattle.std.specs.Prelude.{◌≡◌, ◌≢◌, ℕ, Bool, false, ◌||◌, List, ◌++◌, length, codes, Option, Result, Ok, Err, IfSome, MatchResult, IsErr, is_some, IsTrue}
+use Rattle.std.specs.Prelude.{◌≡◌, ◌⊎◌, ℕ, Bool, false, ◌||◌, List, ◌++◌, length, codes, Option, Result, Ok, Err, IfSome, MatchResult, is_some, IsTrue}
 use Rattle.std.specs.Fmt.{decimal}
 use Rattle.std.specs.FinMap as map
 use Rattle.outside.specs.Told.{WhereTold}
 use Rattle.outside.specs.Causes.{Rose}
-use Rattle.outside.specs.Files.{Files, bytes_of}
+use Rattle.outside.specs.Files.{Files, LeavesPrefix, bytes_of}
 use Rattle.outside.specs.declared.store.FileId.{FileId}
+use Rattle.data_file.specs.Writing.{PutsAllBut}
 use Rattle.script_text.specs.declared.script.Put.{Put}
 use Rattle.script_text.specs.declared.script.Script.{Script}
 use Rattle.script_text.specs.declared.script.ScriptError.{ScriptError}
@@ -102,9 +103,18 @@ IsOfLoad status.Unfinished = ⊥
 IsOfLoad (status.Damaged damage) = ⊥
 IsOfLoad result = Unit {0}
 
--- every other file is as it was
-abbrev pub KeepsOthers : Files → Files → Type 0
-KeepsOthers old new = (file : FileId) → file ≢ data_id → file ≢ schema_id → map.get new file ≡ map.get old file
+-- a prefix of these bytes was added as this file, which may still not be there where it is empty
+abbrev pub Started : FileId → List ℕ → Files → Files → Type 0
+Started file bytes old new = (new ≡ old) ⊎ ((front : List ℕ) × (rest : List ℕ) × (bytes ≡ front ++ rest) × (new ≡ map.insert old file front))
+
+-- a prefix of Data.db was added, or the whole of it and a prefix of Schema.txt
+abbrev pub Begun : List ℕ → Files → Files → Type 0
+Begun bytes old new = Started data_id bytes old new ⊎ Started schema_id schema_text (map.insert old data_id bytes) new
+
+-- the store is as it was, or the files of what is expected were begun
+abbrev pub Changes : Result (List Put) Status → Files → Files → Type 0
+Changes expected old new =
+    (new ≡ old) ⊎ ((puts : List Put) × (bytes : List ℕ) × (expected ≡ Ok puts) × Holds first_types bytes (rows_of puts) × Begun bytes old new)
 
 -- How `load` ends: from what the source has left, its faults, the store's files and faults, what was written, and the sink's faults, before and after.
 pub record LoadEnds (left : Option (List ℕ)) (source source' : ℕ) (files files' : Option Files) (store store' : ℕ) (written written' : Option (List ℕ)) (sink sink' : ℕ) (result : Status) : Type 0 where
@@ -116,20 +126,19 @@ pub record LoadEnds (left : Option (List ℕ)) (source source' : ℕ) (files fil
   -- Exists comes exactly where one of the four files is there, a fault of the store and want of memory aside, and the store stays as it was
   pub exists_only : IfSome files (λ old. result ≡ status.Exists → IsTrue (one_there old))
   pub exists : IfSome files (λ old. IsTrue (one_there old) → IsExists result × (files' ≡ files))
-  -- BadLine and TooLarge come only as the script gives them, and Ok and a fault of the sink only where it is accepted
+  -- BadLine and TooLarge come only as the script gives them
   pub refused : IfSome left (λ bytes. Refused (loading bytes) result)
-  -- at Ok the files stand and their line is printed, which a fault of the sink cuts off
+  -- Ok and a fault of the sink come only where it is accepted: the files stand, and their line is printed, which the fault cuts off
   pub done : IfSome left (λ bytes. Ends (loading bytes) files files' result written written')
   -- completeness: where no file is there and no count of faults rose, it is Ok for a script that is accepted, and else the status of its refusal
   pub complete : IfSome files (λ old. IfSome left (λ bytes. one_there old ≡ false
       → ¬ (Rose source source') → ¬ (Rose sink sink') → ¬ (Rose store store') → IsOrNoMemory (ended (loading bytes)) result))
-  -- the store is as it was after the refusals that come before its files are written, and whatever the end where the script isn't accepted
+  -- the store is as it was after the refusals that come before its files are written
   pub kept : LeavesStore result files files'
-  pub untouched : IfSome left (λ bytes. IsErr (loading bytes) → files' ≡ files)
-  -- nothing but Data.db and Schema.txt ever changes
-  pub others : WhereTold files files' KeepsOthers
+  -- and whatever the end, it is as it was, or the script is accepted, and a prefix of its Data.db was added, or the whole of it and a prefix of Schema.txt
+  pub changes : IfSome left (λ bytes. WhereTold files files' (Changes (loading bytes)))
 
--- ---- the parts of `load`
+-- ---- the parts of `load`: only private contracts cite what follows
 
 -- whether a file is there, where the files are told
 abbrev pub Tells : {E : Type 0} → (Files → Bool) → Option Files → Result Bool E → Type 0
@@ -139,12 +148,18 @@ Tells test files result = IfSome files (λ old. MatchResult result (λ there. th
 abbrev pub NoneThere : Option Files → Type 0
 NoneThere files = IfSome files (λ old. one_there old ≡ false)
 
--- both files were put into the store, behind what was there, and else nothing but them changed
+-- of these bytes a prefix was put into Data.db, or all of them and then a prefix of the schema's text into Schema.txt, behind what was there
+abbrev pub Reaches : List ℕ → Files → Files → Type 0
+Reaches bytes old new =
+    ((left : List ℕ) × PutsAllBut old new data_id bytes left)
+    ⊎ LeavesPrefix (map.insert old data_id (bytes_of old data_id ++ bytes)) new schema_id schema_text
+
+-- both files were put into the store, behind what was there, and else a prefix of them
 abbrev pub Flushes : {T E : Type 0} → Option Files → Option Files → Result T E → List ℕ → Type 0
 Flushes files files' result bytes =
     WhereTold files files' (λ old new. MatchResult result
     (λ _. new ≡ map.insert (map.insert old data_id (bytes_of old data_id ++ bytes)) schema_id (bytes_of old schema_id ++ schema_text))
-    (λ _. KeepsOthers old new))
+    (λ _. Reaches bytes old new))
 
 -- the script is one that some bytes spell
 abbrev pub IsSpelled : Script → Type 0

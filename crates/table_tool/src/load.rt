@@ -1,11 +1,11 @@
 //! The command `load`: the puts of a script become the files of a table.
-ghost use Rattle.std.specs.Prelude.{◌≡◌, ◌≤◌, length, IfOk, IfErr, IfSome, Err, IsErr, IsTrue, MatchResult};
+ghost use Rattle.std.specs.Prelude.{◌≡◌, ◌≤◌, length, IfOk, IfErr, IfSome, Err, IsTrue, MatchResult, Ok};
 ghost use Rattle.outside.specs.Causes.{Rose};
 ghost use Rattle.outside.specs.Told.{WhereTold};
 ghost use Rattle.script_text.specs.Script.{script_of, puts_of};
 ghost use Rattle.table_tool.specs.Listing.{EndsEarly};
 ghost use Rattle.table_tool.specs.Outcome.{Refuses};
-ghost use Rattle.table_tool.specs.Loading.{ok_line, one_there, loading, Adds, Loaded, LoadEnds, Loads, IsExists, IsSpelled, KeepsOthers, LeavesStore, NoneThere, StopsLoad, Takes};
+ghost use Rattle.table_tool.specs.Loading.{ok_line, one_there, loading, Changes, Loaded, LoadEnds, Loads, IsExists, IsSpelled, LeavesStore, NoneThere, StopsLoad, Takes};
 
 use crate::files::one_there;
 use crate::flush::flush;
@@ -63,7 +63,7 @@ fn load_script<K: Store>(
     requires spelled { IsSpelled script }
     requires none { NoneThere (K.files store.old) }
     ensures loaded { IfOk result (Loaded (puts_of script.batches) (K.files store.old) (K.files store.new)) }
-    ensures others { WhereTold (K.files store.old) (K.files store.new) KeepsOthers }
+    ensures changes { WhereTold (K.files store.old) (K.files store.new) (Changes (Ok (puts_of script.batches))) }
     ensures later { K.faults store.old ≤ K.faults store.new }
     ensures fault { result ≡ Err PackError.StoreFault → Rose (K.faults store.old) (K.faults store.new) }
 {
@@ -84,8 +84,7 @@ fn load_source<S: Source, K: Store>(
     ensures stops { IfErr result StopsLoad }
     ensures not_exists { ¬ (result ≡ Err Status.Exists) }
     ensures kept { IfErr result (λ status. LeavesStore status (K.files store.old) (K.files store.new)) }
-    ensures untouched { IfSome (S.left source.old) (λ bytes. IsErr (loading bytes) → K.files store.new ≡ K.files store.old) }
-    ensures others { WhereTold (K.files store.old) (K.files store.new) KeepsOthers }
+    ensures changes { IfSome (S.left source.old) (λ bytes. WhereTold (K.files store.old) (K.files store.new) (Changes (loading bytes))) }
     ensures later { S.faults source.old ≤ S.faults source.new }
     ensures store_later { K.faults store.old ≤ K.faults store.new }
     ensures fault { result ≡ Err Status.SourceFault → Rose (S.faults source.old) (S.faults source.new) }
@@ -113,8 +112,7 @@ fn load_once<S: Source, K: Store>(
     ensures loads { IfSome (S.left source.old) (λ bytes. Loads result (loading bytes) (K.files store.old) (K.files store.new)) }
     ensures stops { IfErr result StopsLoad }
     ensures kept { IfErr result (λ status. LeavesStore status (K.files store.old) (K.files store.new)) }
-    ensures untouched { IfSome (S.left source.old) (λ bytes. IsErr (loading bytes) → K.files store.new ≡ K.files store.old) }
-    ensures others { WhereTold (K.files store.old) (K.files store.new) KeepsOthers }
+    ensures changes { IfSome (S.left source.old) (λ bytes. WhereTold (K.files store.old) (K.files store.new) (Changes (loading bytes))) }
     ensures later { S.faults source.old ≤ S.faults source.new }
     ensures store_later { K.faults store.old ≤ K.faults store.new }
     ensures fault { result ≡ Err Status.SourceFault → Rose (S.faults source.old) (S.faults source.new) }
