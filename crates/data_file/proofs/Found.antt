@@ -5,7 +5,6 @@ use Rattle.std.proofs.Math.Seq.{take-append_seam}
 use Rattle.outside.specs.declared.store.FileId.{FileId}
 use Rattle.outside.specs.Files.{Files, bytes_of}
 use Rattle.bti_nodes.specs.declared.damage.Cause.TheVariants.{BadHead, BadRow}
-use Rattle.key_types.specs.Kinds.{kinds_of}
 use Rattle.data_file.specs.Types.{Types}
 use Rattle.data_file.specs.declared.reading.Head.{Head}
 use Rattle.data_file.specs.declared.reading.RowAt.{RowAt}

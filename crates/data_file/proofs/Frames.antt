@@ -1,6 +1,5 @@
 -- What the parts of a row say of its frame.
 use Rattle.std.proofs.Common.{◌≡◌, ◌∙◌, ℕ, ◌+◌, ◌<◌, ◌≤◌, ◌^◌, List, ◌∷◌, ◌++◌, length, arith, ap, sym, subst, append_assoc, length-append}
-use Rattle.key_types.specs.Kinds.{kinds_of}
 use Rattle.data_file.specs.Types.{Types}
 use Rattle.key_types.specs.declared.schema.ValueType.{ValueType}
 use Rattle.key_types.specs.declared.schema.ValueType.TheVariants.{Text, Blob}

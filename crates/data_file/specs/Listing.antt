@@ -1,6 +1,5 @@
 -- The bytes of a data file, and the partitions and rows that they list. The layout is this project's own.
 use Rattle.std.specs.Prelude.{◌≡◌, ℕ, ◌/◌, ◌%◌, List, [], ◌∷◌, ◌++◌, length, Option, None, Some}
-use Rattle.key_types.specs.Kinds.{kinds_of}
 use Rattle.data_file.specs.Types.{Types}
 use Rattle.key_types.specs.declared.schema.ValueType.{ValueType}
 use Rattle.data_file.specs.Strings.{IsStringOf, IsValueOf}

@@ -1,6 +1,5 @@
 -- What begins at a place of a data file.
 use Rattle.std.specs.Prelude.{◌≡◌, ℕ, ◌+◌, List, ◌∷◌, ◌++◌, length}
-use Rattle.key_types.specs.Kinds.{kinds_of}
 use Rattle.data_file.specs.Types.{Types}
 use Rattle.data_file.specs.Strings.{IsStringOf}
 use Rattle.data_file.specs.Listing.{head_bytes, row_bytes, IsRow}

@@ -4,3 +4,4 @@ pub mod Listed
 pub mod Quoted
 pub mod Spelled
 pub mod Found
+pub mod Accepted

@@ -3,3 +3,4 @@ pub mod Tokens
 pub mod PutLine
 pub mod Grammar
 pub mod Script
+pub mod Accepted

@@ -7,6 +7,6 @@ mod reader;
 mod script;
 mod tokens;
 
-pub use laws::law_put_lines;
+pub use laws::{law_accepted_puts, law_put_lines};
 pub use reader::read_script;
 pub use script::{Batch, BatchList, Get, GetList, LineCause, Put, PutList, Script, ScriptError};

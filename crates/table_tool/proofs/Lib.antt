@@ -4,4 +4,10 @@ mod StepLemmas
 mod ScanLemmas
 mod EndLemmas
 mod MapLemmas
+pub mod Flushed
+pub mod Grouped
+pub mod Holding
+pub mod LoadedLemmas
 pub mod PrintedLemmas
+pub mod RowLemmas
+pub mod Writes

@@ -5,7 +5,7 @@ use Rattle.std.proofs.lemmas.Bool.Decides.{nat_tests}
 use Rattle.std.proofs.lemmas.Int.{ints}
 use Rattle.std.proofs.lemmas.Nat.{from_be_bytes-to_be_bytes_4}
 use Rattle.std.specs.Prelude.{ℤ, pos, negsuc, ◌-ℤ◌, IsTrue}
-use Rattle.std.specs.Int.{w32, to_be_bytes, from_be_bytes, bytes_high_first}
+use Rattle.std.specs.Int.{w32, from_be_bytes, bytes_high_first}
 use Rattle.key_types.specs.Kinds.{int, number, fits_by}
 use Rattle.byte_comparable.specs.Encoding.{shifted}
 use Rattle.script_text.specs.Script.{int_partition}

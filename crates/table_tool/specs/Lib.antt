@@ -11,4 +11,7 @@ pub mod Outcome
 pub mod Steps
 pub mod Scanning
 pub mod Scanned
+pub mod Grouping
+pub mod Loading
+pub mod Run
 pub mod Numbers

@@ -1,5 +1,5 @@
 -- The files that stand for a map: what they hold, and of which rows. The layout of the files is this project's own.
-use Rattle.std.specs.Prelude.{◌≡◌, ◌≢◌, ℕ, List, [], ◌∷◌, ◌++◌, map, codes, Option, None, Some}
+use Rattle.std.specs.Prelude.{◌≡◌, ◌≢◌, ℕ, List, [], ◌∷◌, ◌++◌, map, codes, None}
 use Rattle.std.specs.declared.cmp.Ordering.TheVariants.{Less}
 use Rattle.key_types.specs.Kinds.{more, int, end}
 use Rattle.key_types.specs.Table.{Entry, string_cmp}

@@ -3,9 +3,11 @@
 
 mod fault_line;
 mod files;
+mod flush;
 mod input;
 mod laws;
 mod list;
+mod load;
 mod numbers;
 mod printing;
 mod request;
@@ -19,4 +21,4 @@ mod window;
 
 pub use laws::law_numbers_are_named;
 pub use status::Status;
-pub use tool::{run, run_query};
+pub use tool::{run, run_load, run_query};

@@ -34,7 +34,7 @@ pub fn first_schema(alloc: Global) -> Result<Schema, NoMemory>
 }
 
 /// The script that the bytes spell under that schema.
-fn first_script(alloc: Global, bytes: &[u8]) -> Result<Script, ScriptError>
+pub fn first_script(alloc: Global, bytes: &[u8]) -> Result<Script, ScriptError>
     ensures { Answers result (script_of bytes.now) }
 {
     let schema = first_schema(alloc)?;

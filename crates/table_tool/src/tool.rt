@@ -1,12 +1,17 @@
 //! The top calls.
-ghost use Rattle.std.specs.Prelude.{◌≡◌};
+ghost use Rattle.std.specs.Prelude.{◌≡◌, ◌⊎◌};
 ghost use Rattle.outside.specs.Told.{WhereTold};
-ghost use Rattle.table_tool.specs.Request.{AreRefused, AskList};
+ghost use Rattle.table_tool.specs.Request.{AreRefused, AskList, AskLoad, AskScan};
 ghost use Rattle.table_tool.specs.Outcome.{ListEnds, Refuses, IsOrNoMemory};
+ghost use Rattle.table_tool.specs.Loading.{LoadEnds};
+ghost use Rattle.table_tool.specs.Scanning.{ScanEnds};
+ghost use Rattle.table_tool.specs.Run.{RunEnds};
 
 use crate::list::list_source;
+use crate::load::load;
 use crate::request::{Request, read_request};
 use crate::saying::{print, refuse};
+use crate::scan::scan_table;
 use crate::status::Status;
 use command_line::WordsError;
 use outside::{Gate, Sink, Source, Store};
@@ -27,7 +32,37 @@ fn list<S: Source, O: Sink>(alloc: Global, source: &mut S, out: &mut O) -> Statu
     }
 }
 
-/// Does a command that starts no thread. It never waits, and always returns.
+/// Does what the words ask for.
+fn answer<S: Source, O: Sink, K: Store>(
+    alloc: Global,
+    words: &[String],
+    source: &mut S,
+    out: &mut O,
+    store: &mut K,
+) -> Status
+    ensures usage_only { result ≡ Status.Usage → AreRefused words.now }
+    ensures usage { AreRefused words.now → IsOrNoMemory Status.Usage result }
+    ensures list { AskList words.now → ListEnds (S.left source.old) (S.faults source.old) (S.faults source.new)
+        (O.written out.old) (O.written out.new) (O.faults out.old) (O.faults out.new) result }
+    ensures load { AskLoad words.now → LoadEnds (S.left source.old) (S.faults source.old) (S.faults source.new)
+        (K.files store.old) (K.files store.new) (K.faults store.old) (K.faults store.new)
+        (O.written out.old) (O.written out.new) (O.faults out.old) (O.faults out.new) result }
+    ensures scan { AskScan words.now → ScanEnds (K.files store.old) (K.faults store.old) (K.faults store.new)
+        (O.written out.old) (O.written out.new) (O.faults out.old) (O.faults out.new) result }
+    ensures refuses { ¬ (AskScan words.now) → WhereTold (O.written out.old) (O.written out.new) (Refuses result (O.faults out.old) (O.faults out.new)) }
+    ensures kept { ¬ (AskLoad words.now) → K.files store.new ≡ K.files store.old }
+    ensures untouched { ¬ (AskLoad words.now) → ¬ (AskScan words.now) → store.new ≡ store.old }
+{
+    match read_request(alloc, words) {
+        Ok(Request::List) => list(alloc, source, out),
+        Ok(Request::Load) => load(alloc, source, out, store),
+        Ok(Request::Scan) => scan_table(alloc, out, store),
+        Err(WordsError::Usage) => refuse(alloc, out, Status::Usage),
+        Err(WordsError::NoMemory) => Status::NoMemory,
+    }
+}
+
+/// Does a command that starts no thread: any but `load`. It never waits, and always returns.
 ///
 /// The words are those behind the program's name. The clauses are those of `run`.
 pub fn run_query<S: Source, O: Sink, K: Store>(
@@ -35,21 +70,35 @@ pub fn run_query<S: Source, O: Sink, K: Store>(
     words: &[String],
     source: &mut S,
     out: &mut O,
-    _store: &mut K,
+    store: &mut K,
 ) -> Status
-    ensures usage_only { result ≡ Status.Usage → AreRefused words.now }
-    ensures usage { AreRefused words.now → IsOrNoMemory Status.Usage result }
-    ensures list { AskList words.now → ListEnds (S.left source.old) (S.faults source.old) (S.faults source.new)
+    requires { ¬ (AskLoad words.now) }
+    ensures ends { RunEnds words.now (S.left source.old) (S.faults source.old) (S.faults source.new)
+        (K.files store.old) (K.files store.new) (K.faults store.old) (K.faults store.new)
         (O.written out.old) (O.written out.new) (O.faults out.old) (O.faults out.new) result }
-    ensures refuses { WhereTold (O.written out.old) (O.written out.new) (Refuses result (O.faults out.old) (O.faults out.new)) }
-    ensures store { _store.new ≡ _store.old }
+    ensures untouched { ¬ (AskScan words.now) → store.new ≡ store.old }
 {
-    match read_request(alloc, words) {
-        Ok(Request::List) => list(alloc, source, out),
-        Ok(Request::Load) | Ok(Request::Scan) => Status::NoMemory,
-        Err(WordsError::Usage) => refuse(alloc, out, Status::Usage),
-        Err(WordsError::NoMemory) => Status::NoMemory,
-    }
+    answer(alloc, words, source, out, store)
+}
+
+/// Does `load`. Until there are shards it starts no thread.
+///
+/// The words are those behind the program's name. The clauses are those of `run`.
+pub fn run_load<R: Threads + Sync, S: Source, O: Sink, K: Store, G: Gate>(
+    _rt: &R,
+    alloc: Global,
+    words: &[String],
+    source: &mut S,
+    out: &mut O,
+    store: &mut K,
+    _gate: &G,
+) -> Status
+    requires { AskLoad words.now ⊎ AreRefused words.now }
+    ensures ends { RunEnds words.now (S.left source.old) (S.faults source.old) (S.faults source.new)
+        (K.files store.old) (K.files store.new) (K.faults store.old) (K.faults store.new)
+        (O.written out.old) (O.written out.new) (O.faults out.old) (O.faults out.new) result }
+{
+    answer(alloc, words, source, out, store)
 }
 
 /// Does the command that the words ask for, and answers how it ended.
@@ -64,19 +113,11 @@ pub fn run<R: Threads + Sync, S: Source, O: Sink, K: Store, G: Gate>(
     store: &mut K,
     _gate: &G,
 ) -> Status
-    // Usage comes exactly where the words are no command whose texts are accepted, want of memory aside.
-    ensures usage_only { result ≡ Status.Usage → AreRefused words.now }
-    ensures usage { AreRefused words.now → IsOrNoMemory Status.Usage result }
-
-    // `list` prints the rows of the sorted map of all puts; its faults, refusals and completeness.
-    ensures list { AskList words.now → ListEnds (S.left source.old) (S.faults source.old) (S.faults source.new)
+    ensures ends { RunEnds words.now (S.left source.old) (S.faults source.old) (S.faults source.new)
+        (K.files store.old) (K.files store.new) (K.faults store.old) (K.faults store.new)
         (O.written out.old) (O.written out.new) (O.faults out.old) (O.faults out.new) result }
-
-    // A refusal writes its fault line and nothing else; want of memory writes nothing.
-    ensures refuses { WhereTold (O.written out.old) (O.written out.new) (Refuses result (O.faults out.old) (O.faults out.new)) }
-
-    // No command of today touches the store.
-    ensures store { store.new ≡ store.old }
+    // `list` and refused words ask the store nothing.
+    ensures untouched { ¬ (AskLoad words.now) → ¬ (AskScan words.now) → store.new ≡ store.old }
 {
-    run_query(alloc, words, source, out, store)
+    answer(alloc, words, source, out, store)
 }

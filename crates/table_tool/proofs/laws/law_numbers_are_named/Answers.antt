@@ -1,4 +1,4 @@
-use Rattle.std.proofs.Common.{ap, List, ℕ}
+use Rattle.std.proofs.Common.{ap}
 use Rattle.std.specs.Prelude.{ℤ}
 use Rattle.key_types.specs.Kinds.{more, end, int, and, none, number}
 use Rattle.table_tool.specs.Printed.{row_line}
