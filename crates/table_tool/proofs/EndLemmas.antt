@@ -353,3 +353,8 @@ module _ (store store' : ℕ) (files : Option Files) (a b : Option (List ℕ)) (
   fault_ends rose is = scan_ends store store' a b sink sink' result
       (λ e. rose) (λ e. absurd (not_of status.StoreFault result status.SinkFault is (λ t. cc) (λ t. cc) e))
       files (not_found files result (not_of status.StoreFault result status.Unfinished is (λ t. cc) (λ t. cc))) (allowed files result (is_allowed status.StoreFault result tt is)) (refused files a b sink sink' status.StoreFault result (inl refl) is told)
+
+-- want of memory before anything was asked
+pub no_memory_ends : (files : Option Files) (store : ℕ) (written : Option (List ℕ)) (sink : ℕ) → ScanEnds files store store written written sink sink status.NoMemory
+no_memory_ends files store written sink = scan_ends store store written written sink sink status.NoMemory (λ e. cc) (λ e. cc) files (not_found files status.NoMemory (λ e. cc))
+    (allowed files status.NoMemory tt) (part [], tt, nothing_shown files, nothing_written written sink)
