@@ -1,7 +1,7 @@
 //! The program: real input, output and store, handed to the top call.
 #![tactic(auto)]
 
-use outside::{MemStore, OpenGate, ReaderSource, WriterSink};
+use outside::{FolderStore, OpenGate, ReaderSource, WriterSink};
 use std::alloc::{AllocError, Global};
 use std::env;
 use std::io::ErrorKind;
@@ -29,7 +29,7 @@ fn main(rt: HostRuntime) -> ExitCode {
         Ok(words) => {
             let mut source = ReaderSource::new(rt.stdin());
             let mut out = WriterSink::new(rt.stdout());
-            let mut store = MemStore::new(alloc, Vec::new(alloc));
+            let mut store = FolderStore::new(&rt);
             run(
                 &rt,
                 alloc,

@@ -3,3 +3,7 @@
 
 #[cfg(test)]
 mod rows;
+#[cfg(test)]
+mod running;
+#[cfg(test)]
+mod tables;

@@ -1,65 +1,11 @@
 //! Rows of `list`.
-ghost use Rattle.std.specs.Prelude.{◌<◌, IfOk};
-
-use outside::{Fail, MemSink, MemSource, MemStore, OpenGate};
+use crate::running::{Feed, done, feed_of};
+use outside::Fail;
 use std::alloc::{AllocError, Global};
 use std::test::Fail as TestFail;
-use std::thread::Threads;
-use table_tool::{Status, run};
+use table_tool::Status;
 
 const LIST: [&str; 3] = ["list", "--schema", "(int; ; text)"];
-
-/// The source of a test: its bytes, how many a pull gives at most, and the pulls that fail.
-#[derive(Drop)]
-struct Feed {
-    bytes: Vec<u8>,
-    piece: usize,
-    fails: Vec<u64>,
-}
-
-fn words(alloc: Global, texts: &[&str]) -> Result<Vec<String>, AllocError> {
-    let mut all = Vec::new(alloc);
-    for text in texts {
-        all.push(String::from_str(alloc, text)?)?;
-    }
-    Ok(all)
-}
-
-/// The status of a run, and its sink.
-fn done<R: Threads + Sync>(
-    rt: &R,
-    alloc: Global,
-    texts: &[&str],
-    feed: Feed,
-    fails: Vec<Fail>,
-) -> Result<(Status, MemSink), AllocError>
-    requires { 0 < feed.piece }
-{
-    let words = words(alloc, texts)?;
-    let mut source = MemSource::new(feed.bytes, feed.piece, feed.fails);
-    let mut sink = MemSink::new(alloc, fails);
-    let mut store = MemStore::new(alloc, Vec::new(alloc));
-    let status = run(
-        rt,
-        alloc,
-        &words,
-        &mut source,
-        &mut sink,
-        &mut store,
-        &OpenGate,
-    );
-    Ok((status, sink))
-}
-
-fn feed_of(alloc: Global, script: &[u8]) -> Result<Feed, AllocError>
-    ensures { IfOk result (λ f. 0 < f.piece) }
-{
-    Ok(Feed {
-        bytes: script.to_vec(alloc)?,
-        piece: 5,
-        fails: Vec::new(alloc),
-    })
-}
 
 #[test]
 fn scripts_are_listed_or_refused(rt: HostRuntime) -> Result<(), TestFail> {
