@@ -1,0 +1,14 @@
+mod Behind
+mod Capped
+mod Listed
+mod Numbers
+mod Quoted
+mod Plain
+mod Composed
+mod Lists
+mod Tracked
+mod Answered
+mod Utf
+mod Whole
+mod Decimals
+mod Back
