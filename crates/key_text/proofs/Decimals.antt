@@ -45,7 +45,7 @@ minus_is : (n : ℕ) (ds : List ℕ) → IsDecimal (suc n) ds → IsNumber (negs
 minus_is n ds (inl p) = let e = p.0 in absurd (omega arith)
 minus_is n ds (inr p) = inr (inr (suc n, refl, ds, refl, p))
 
-number_written : (m : ℕ) (z : ℤ) → m < 2 ^ 63 → IsTrue (within (negsuc m) (pos (suc m)) z) → IsNumber z (signed_decimal z)
+pub number_written : (m : ℕ) (z : ℤ) → m < 2 ^ 63 → IsTrue (within (negsuc m) (pos (suc m)) z) → IsNumber z (signed_decimal z)
 number_written m (pos n) l h = plain_is n (decimal n) (decimal_is n (grind (arith, nat_tests)))
 number_written m (negsuc n) l h = minus_is n (decimal (suc n)) (decimal_is (suc n) (grind (arith, nat_tests)))
 

@@ -1,14 +1,15 @@
-mod Behind
-mod Capped
-mod Listed
-mod Numbers
-mod Quoted
-mod Plain
-mod Composed
-mod Lists
-mod Tracked
-mod Answered
-mod Utf
-mod Whole
-mod Decimals
-mod Back
+pub mod Behind
+pub mod Capped
+pub mod Listed
+pub mod Numbers
+pub mod Quoted
+pub mod Plain
+pub mod Composed
+pub mod Lists
+pub mod Tracked
+pub mod Answered
+pub mod Utf
+pub mod Whole
+pub mod Decimals
+pub mod Back
+pub mod Utf8Written

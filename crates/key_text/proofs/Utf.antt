@@ -12,7 +12,7 @@ use Rattle.key_text.specs.Tokens.{is_hex, hex_value, AreHex}
 use Rattle.key_text.specs.Grammar.{IsLiteral, AreLiterals, AreFurther, IsList}
 use Rattle.key_text.specs.Outside.{NumbersFit, AllNumbersFit}
 
-both : (a b : Bool) → (a && b) ≡ true → (a ≡ true) × (b ≡ true)
+pub both : (a b : Bool) → (a && b) ≡ true → (a ≡ true) × (b ≡ true)
 both true b h = (refl, h)
 both false b h = cc
 
@@ -53,10 +53,10 @@ before_quote before rest u =
 
 -- ---- quotes that are doubled
 
-abbrev NoQuotes : List ℕ → Type 0
+abbrev pub NoQuotes : List ℕ → Type 0
 NoQuotes es = (k : ℕ) → k < length es → get_or es k 0 ≡ 39 → ⊥
 
-same_byte : (b c : ℕ) → (b == c) ≡ true → b ≡ c
+pub same_byte : (b c : ℕ) → (b == c) ≡ true → b ≡ c
 same_byte b c e = grind (arith, nat_tests)
 
 peel : (es rest v : List ℕ) → NoQuotes es → es ++ rest ≡ quotes_doubled v → (u : List ℕ) × (v ≡ es ++ u) × (rest ≡ quotes_doubled u)
@@ -99,7 +99,7 @@ nothing_doubled b v = by (b == 39)
     by true e = cc
     by false e = cc
 
-no_quotes : (c : ℕ) → (c ≡ 39 → ⊥) → NoQuotes (encode c)
+pub no_quotes : (c : ℕ) → (c ≡ 39 → ⊥) → NoQuotes (encode c)
 no_quotes c h k l e = h (inside_one c [] (encode c) k (sym (append-nil (encode c))) l (omega arith) ∙ e)
 
 undoubled : (n : ℕ) (cs v : List ℕ) → length cs ≤ n → scalars cs ≡ true → encodes cs ≡ quotes_doubled v → IsUtf8 v

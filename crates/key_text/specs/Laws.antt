@@ -1,5 +1,6 @@
 -- What holds of the texts of values. This project's own.
-use Rattle.std.specs.Prelude.{◌≡◌, List, ℕ, Result, Ok, Err}
+use Rattle.std.specs.Prelude.{◌≡◌, List, ℕ, Result, Ok, Err, IsTrue}
+use Rattle.std.specs.Str.{is_utf8}
 use Rattle.key_types.specs.declared.kinds.Value.{Value}
 use Rattle.key_types.specs.declared.kinds.ValueList.{ValueList}
 use Rattle.key_types.specs.Kinds.{Kind, Kinds, Val, Vals, Fits, EachFits, value_of, values_of}
@@ -19,6 +20,9 @@ pub record LiteralTexts : Type 0 where
   -- what is written of a value that fits is a text of it, and so of a list
   pub value_text : (t : Kind) (v : Val) → Fits t v → IsText (IsLiteral t) v (literal t v)
   pub list_text : (ts : Kinds) (vs : Vals) → EachFits ts vs → IsText (IsList ts) vs (list_literal ts vs)
+  -- what is written is UTF-8, as what is read has to be
+  pub value_utf8 : (t : Kind) (v : Val) → Fits t v → IsTrue (is_utf8 (literal t v))
+  pub list_utf8 : (ts : Kinds) (vs : Vals) → EachFits ts vs → IsTrue (is_utf8 (list_literal ts vs))
   -- a text is of at most one value of a type, and of at most one list
   pub value_one : (t : Kind) (v w : Val) (bs : List ℕ) → IsText (IsLiteral t) v bs → IsText (IsLiteral t) w bs → v ≡ w
   pub list_one : (ts : Kinds) (vs ws : Vals) (bs : List ℕ) → IsText (IsList ts) vs bs → IsText (IsList ts) ws bs → vs ≡ ws

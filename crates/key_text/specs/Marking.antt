@@ -1,4 +1,4 @@
--- Values read from the front of bytes, with the first number marked that passes its type: only private contracts cite it.
+-- Values read from the front of bytes, with the first number marked that passes its type: whole texts are read by it, and parts of lines may be.
 use Rattle.std.specs.Prelude.{ℕ, ◌^◌, nat_le, nat_lt, Bool, true, false, length, ℤ, pos, neg_ℤ, Option, Some, None, if◌then◌else◌}
 use Rattle.grammar.specs.Exact.{Read}
 use Rattle.grammar.specs.Reading.{then_read, map_read, mapped, ends, sign_at}
