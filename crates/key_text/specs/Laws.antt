@@ -16,6 +16,7 @@ IsRead view a (Ok x) = view x ≡ a
 IsRead view a (Err NoMemory) = Unit {0}
 IsRead view a (Err _) = ⊥
 
+-- the laws of the texts of values
 pub record LiteralTexts : Type 0 where
   -- what is written of a value that fits is a text of it, and so of a list
   pub value_text : (t : Kind) (v : Val) → Fits t v → IsText (IsLiteral t) v (literal t v)

@@ -27,10 +27,12 @@ abbrev pub first_of : Option ℕ → ℕ → Option ℕ
 first_of None left = Some left
 first_of (Some x) left = Some x
 
+-- the number, or 0 with the place marked where it isn't within the bound
 abbrev pub marked_number : Option ℕ → ℕ → Option ℤ → Marked Val
 marked_number mark left (Some z) = (number z, mark)
 marked_number mark left None = (number (pos 0), first_of mark left)
 
+-- a number of a type whose numbers are within the bound
 abbrev pub marked_number_at : ℕ → Option ℕ → Read (Marked Val)
 marked_number_at most mark bs = mapped (λ x. marked_number mark (length bs) (kept most x.0 x.1)) (closed number_at bs)
 

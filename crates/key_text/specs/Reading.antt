@@ -16,6 +16,7 @@ abbrev pub positive_at : Read ℕ
 positive_at [] = Err 0
 positive_at (b ∷ bs) = if is_nonzero b then digits_at (b - 48) bs else Err (length bs + 1)
 
+-- the digit 0
 abbrev pub is_zero : ℕ → Bool
 is_zero b = b == 48
 
@@ -23,9 +24,11 @@ is_zero b = b == 48
 abbrev pub zero_at : Read ℕ
 zero_at = then_read (literal (codes "0")) (λ _. ends is_digit 0)
 
+-- digits without leading zeros
 abbrev pub magnitude_at : Read ℕ
 magnitude_at = by_first is_zero zero_at positive_at
 
+-- a minus
 abbrev pub is_minus : ℕ → Bool
 is_minus b = b == 45
 
@@ -39,6 +42,7 @@ capped x = (x.0, min x.1 (2 ^ 64 - 1))
 
 -- ---- texts
 
+-- a byte in front of what is read
 abbrev pub onto : ℕ → Result (List ℕ × List ℕ) ℕ → Result (List ℕ × List ℕ) ℕ
 onto b (Ok x) = Ok (b ∷ x.0, x.1)
 onto b (Err e) = Err e
@@ -53,6 +57,7 @@ abbrev mutual
   behind_quote [] = Ok ([], [])
   behind_quote (b ∷ bs) = if b == 39 then onto 39 (quoted_at bs) else Ok ([], b ∷ bs)
 
+-- a text in quotes
 abbrev pub text_at : Read (List ℕ)
 text_at = then_read (literal (codes "'")) (λ _. quoted_at)
 
@@ -69,6 +74,7 @@ abbrev mutual
   low_at high [] = Err 0
   low_at high (b ∷ bs) = if is_hex b then onto (high * 16 + hex_value b) (hex_at bs) else Err (length bs + 1)
 
+-- 0x and pairs of digits
 abbrev pub blob_at : Read (List ℕ)
 blob_at = then_read (literal (codes "0x")) (λ _. hex_at)
 
@@ -90,14 +96,17 @@ closing_at = then_read spaces_at (λ _. ends no_end tt)
 abbrev pub closed : {A : Type 0} → Read A → Read A
 closed {A} r = then_read r (λ v. map_read (λ _. v) closing_at)
 
+-- the word of a boolean, and whether spaces stand behind it
 abbrev pub truth_word_at : Read (Bool × Bool)
 truth_word_at = one_of (codes "true", true) ((codes "false", false) ∷ [])
 
+-- a boolean, and then the end of a value
 abbrev pub truth_at : Read Bool
 truth_at = then_read truth_word_at (λ x. ends no_end x.0)
 
 -- ---- parts of these readings, for the loops that do them
 
+-- what is read of a number, under the cap
 abbrev pub capped_all : Result (ℕ × List ℕ) ℕ → Result (ℕ × List ℕ) ℕ
 capped_all read = mapped (λ n. min n (2 ^ 64 - 1)) read
 

@@ -1,9 +1,11 @@
 -- The tokens of literals of one word, in their own words. This project's own.
 use Rattle.std.specs.Prelude.{◌≡◌, ℕ, ◌+◌, ◌-◌, ◌*◌, ◌&&◌, ◌||◌, ◌⊎◌, nat_le, Bool, List, [], ◌∷◌, ◌++◌, codes, ℤ, pos, neg_ℤ, if◌then◌else◌, IsTrue}
 
+-- 0 to 9
 abbrev pub is_digit : ℕ → Bool
 is_digit b = nat_le 48 b && nat_le b 57
 
+-- 1 to 9
 abbrev pub is_nonzero : ℕ → Bool
 is_nonzero b = nat_le 49 b && nat_le b 57
 
@@ -30,6 +32,7 @@ IsNumber z text =
 abbrev pub is_hex : ℕ → Bool
 is_hex b = is_digit b || (nat_le 97 b && nat_le b 102) || (nat_le 65 b && nat_le b 70)
 
+-- the value of a hexadecimal digit
 abbrev pub hex_value : ℕ → ℕ
 hex_value b = if is_digit b then b - 48 else (if nat_le 97 b then b - 87 else b - 55)
 

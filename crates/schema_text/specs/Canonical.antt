@@ -26,10 +26,12 @@ abbrev mutual
   rest_text end = []
   rest_text (more t ts) = codes ", " ++ type_text t ++ rest_text ts
 
+-- a value type
 abbrev pub value_text : ValueType → List ℕ
 value_text Text = codes "text"
 value_text Blob = codes "blob"
 
+-- the type of a static value behind a semicolon, where there is one
 abbrev pub static_text : Option ValueType → List ℕ
 static_text None = []
 static_text (Some v) = codes "; " ++ value_text v

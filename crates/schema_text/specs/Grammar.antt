@@ -10,6 +10,7 @@ pub data Token : Type 0 where
   word : List ℕ → Token
   sign : ℕ → Token
 
+-- the bytes of a token
 abbrev pub spelling : Token → List ℕ
 spelling (word letters) = letters
 spelling (sign byte) = byte ∷ []
@@ -32,6 +33,7 @@ abbrev mutual
   list_tokens (more t end) = type_tokens t
   list_tokens (more t ts) = type_tokens t ++ sign 44 ∷ list_tokens ts
 
+-- the word of a value type
 abbrev pub value_token : ValueType → Token
 value_token Text = word (codes "text")
 value_token Blob = word (codes "blob")

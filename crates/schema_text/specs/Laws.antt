@@ -14,6 +14,7 @@ IsRead s (Ok r) = columns_of r ≡ s
 IsRead s (Err error.NoMemory) = Unit {0}
 IsRead s (Err _) = ⊥
 
+-- the laws of the texts of schemas
 pub record SchemaTexts : Type 0 where
   -- what is written of a schema is a text of it
   pub written : (s : Columns) → KeepsBounds s → IsSchemaText s (canonical s)

@@ -8,6 +8,7 @@ use Rattle.schema_text.specs.declared.reading.SchemaError.TheVariants as error
 use Rattle.schema_text.specs.Columns.{Columns, columns_of, has_few, is_flat}
 use Rattle.schema_text.specs.Grammar.{IsSome, AreTypes}
 
+-- the columns that the parts in memory stand for
 abbrev pub parts_of : Parts → Columns
 parts_of p = record { partition = kinds_of p.partition; clustering = kinds_of p.clustering; value = p.value; fixed = p.static_value }
 

@@ -19,6 +19,7 @@ abbrev pub tuple_by : Read Kinds → Read (Kind × Bool)
 tuple_by types =
     then_read (token true (codes "tuple")) (λ _. then_read (sign_at 60) (λ _. then_read types (λ ts. map_read (λ _. (tuple ts, true)) (sign_at 62))))
 
+-- the first letter of `reversed`
 abbrev pub is_r : ℕ → Bool
 is_r b = b == 114
 
@@ -27,6 +28,7 @@ abbrev pub turn_at : Bool → Read (Option Bool)
 turn_at true = perhaps 114 None (map_read Some (token true (codes "reversed")))
 turn_at false = ends is_r None
 
+-- the type, or the reversed one where `reversed` was read
 abbrev pub turned : Option Bool → Kind → Kind
 turned None t = t
 turned (Some s) t = reversed t
@@ -39,6 +41,7 @@ no_end b = not (b == 44 || b == 59 || b == 62 || b == 41)
 abbrev pub closing_at : Bool → Kind → Read Kind
 closing_at s t = then_read (turn_at s) (λ o. ends no_end (turned o t))
 
+-- a type, without `reversed` read so
 abbrev pub kind_by : Read (Kind × Bool) → Read Kind
 kind_by base = then_read base (λ x. closing_at x.1 x.0)
 
@@ -46,6 +49,7 @@ kind_by base = then_read base (λ x. closing_at x.1 x.0)
 abbrev pub no_close : ℕ → Bool
 no_close b = not (b == 59 || b == 62 || b == 41)
 
+-- a type and those behind it, where there are some
 abbrev pub listed : Kind → Option Kinds → Kinds
 listed t None = more t end
 listed t (Some ts) = more t ts
@@ -59,6 +63,7 @@ some_kinds (Some ts) = Some (kinds_of ts)
 abbrev pub more_by : Read Kinds → Read (Option Kinds)
 more_by types = perhaps 44 None (map_read Some (then_read (sign_at 44) (λ _. types)))
 
+-- what stands behind a type of a list, up to the end of the list
 abbrev pub behind_by : Read Kinds → Kind → Read Kinds
 behind_by types t = then_read (more_by types) (λ o. ends no_close (listed t o))
 
@@ -72,6 +77,7 @@ abbrev mutual
   types_at zero = then_read (kind_by simple_at) (λ t. ends no_close (more t end))
   types_at (suc fuel) = then_read (kind_by (base_at fuel)) (behind_by (types_at fuel))
 
+-- the sign between two lists
 abbrev pub is_semicolon : ℕ → Bool
 is_semicolon b = b == 59
 
@@ -83,10 +89,11 @@ closed_at fuel = then_read (types_at fuel) (λ ts. map_read (λ _. ts) (sign_at 
 abbrev pub clustering_at : ℕ → Read Kinds
 clustering_at fuel = by_first is_semicolon (map_read (λ _. end) (sign_at 59)) (closed_at fuel)
 
--- a value type, and what may stand behind it
+-- the word of a value type, and whether spaces stand behind it
 abbrev pub value_word_at : Read (ValueType × Bool)
 value_word_at = one_of (codes "text", Text) ((codes "blob", Blob) ∷ [])
 
+-- a value type, and what may stand behind it
 abbrev pub value_at : Read ValueType
 value_at = then_read value_word_at (λ x. ends no_end x.0)
 
@@ -97,6 +104,7 @@ static_at =
     (then_read (sign_at 59) (λ _. then_read value_at (λ v. map_read (λ _. Some v) (sign_at 41))))
     (map_read (λ _. None) (sign_at 41))
 
+-- these columns
 abbrev pub columns : Kinds → Kinds → ValueType → Option ValueType → Columns
 columns partition clustering value fixed = record { partition = partition; clustering = clustering; value = value; fixed = fixed }
 
@@ -105,5 +113,6 @@ abbrev pub behind_partition : ℕ → Kinds → Read Columns
 behind_partition fuel p =
     then_read (sign_at 59) (λ _. then_read (clustering_at fuel) (λ c. then_read value_at (λ v. map_read (λ f. columns p c v f) static_at)))
 
+-- the columns of a text, behind spaces
 abbrev pub columns_at : ℕ → Read Columns
 columns_at fuel = then_read spaces_at (λ _. then_read (sign_at 40) (λ _. then_read (types_at fuel) (behind_partition fuel)))
