@@ -5,3 +5,5 @@ pub mod First
 pub mod Map
 pub mod Perhaps
 pub mod Tokens
+pub mod Signs
+pub mod Choices

@@ -6,10 +6,10 @@ use Rattle.grammar.specs.Exact.{Exact, StopsAt, Begins, AreBytes}
 use Rattle.grammar.specs.Reading.{literal, IsLiteral, without_spaces, is_letter, gap, IsGap, AfterGap, ends, IsEnd, token, IsToken}
 use Rattle.grammar.proofs.Bind.{bind_exact}
 
-same_byte : (b c : ℕ) → (b == c) ≡ true → b ≡ c
+pub same_byte : (b c : ℕ) → (b == c) ≡ true → b ≡ c
 same_byte b c e = grind (arith, nat_tests)
 
-self : (b : ℕ) → (b == b) ≡ true
+pub self : (b : ℕ) → (b == b) ≡ true
 self b = grind (arith, nat_tests)
 
 -- ---- given bytes
@@ -70,7 +70,7 @@ literal_exact w h = record {
 
 -- ---- spaces
 
-skipped : (bs : List ℕ) → (n : ℕ) × (bs ≡ replicate n 32 ++ without_spaces bs)
+pub skipped : (bs : List ℕ) → (n : ℕ) × (bs ≡ replicate n 32 ++ without_spaces bs)
 skipped [] = (0, refl)
 skipped (b ∷ bs) = by (b == 32) refl (skipped bs)
   where
@@ -78,7 +78,7 @@ skipped (b ∷ bs) = by (b == 32) refl (skipped bs)
     by true e p = (suc p.0, ap (λ x. x ∷ bs) (same_byte b 32 e) ∙ ap (λ l. 32 ∷ l) p.1)
     by false e p = (0, refl)
 
-no_space_left : (bs : List ℕ) (b : ℕ) (cs : List ℕ) → without_spaces bs ≡ b ∷ cs → (b == 32) ≡ false
+pub no_space_left : (bs : List ℕ) (b : ℕ) (cs : List ℕ) → without_spaces bs ≡ b ∷ cs → (b == 32) ≡ false
 no_space_left [] b cs h = cc
 no_space_left (x ∷ xs) b cs h = by (x == 32) refl h (no_space_left xs b cs)
   where
@@ -86,11 +86,11 @@ no_space_left (x ∷ xs) b cs h = by (x == 32) refl h (no_space_left xs b cs)
     by true e h f = f h
     by false e h f = let same : x ≡ b = cc in subst (λ (y : ℕ). (y == 32) ≡ false) same e
 
-stays : (rest : List ℕ) → Begins (λ b. (b == 32) ≡ false) rest → without_spaces rest ≡ rest
+pub stays : (rest : List ℕ) → Begins (λ b. (b == 32) ≡ false) rest → without_spaces rest ≡ rest
 stays [] h = refl
 stays (b ∷ bs) h = rw h refl
 
-skips : (n : ℕ) (rest : List ℕ) → Begins (λ b. (b == 32) ≡ false) rest → without_spaces (replicate n 32 ++ rest) ≡ rest
+pub skips : (n : ℕ) (rest : List ℕ) → Begins (λ b. (b == 32) ≡ false) rest → without_spaces (replicate n 32 ++ rest) ≡ rest
 skips zero rest h = stays rest h
 skips (suc n) rest h = skips n rest h
 
@@ -160,7 +160,7 @@ stops_gap word (b ∷ bs) left h = stops_gap_by word (b == 32) (word && is_lette
 pub gap_exact : (word : Bool) → Exact (gap word) IsGap (AfterGap word)
 gap_exact word = record { found = found_gap word; all = all_gap word; next = next_gap word; stops = stops_gap word }
 
-any_rest : (rest : List ℕ) → Begins (λ _. ⊤) rest
+pub any_rest : (rest : List ℕ) → Begins (λ _. ⊤) rest
 any_rest [] = tt
 any_rest (b ∷ bs) = tt
 

@@ -77,6 +77,25 @@ token word w = then_read (literal w) (λ _. gap word)
 abbrev pub IsToken : List ℕ → Bool → List ℕ → Type 0
 IsToken w = Then (IsLiteral w) (λ _. IsGap)
 
+-- spaces, or none
+abbrev pub spaces_at : Read ⊤
+spaces_at bs = Ok (tt, without_spaces bs)
+
+abbrev pub AreSpaces : ⊤ → List ℕ → Type 0
+AreSpaces _ text = (n : ℕ) × (text ≡ replicate n 32)
+
+-- a sign with the spaces behind it
+abbrev pub sign_at : ℕ → Read ⊤
+sign_at c [] = Err 0
+sign_at c (b ∷ bs) = if b == c then Ok (tt, without_spaces bs) else Err (length bs + 1)
+
+abbrev pub IsSign : ℕ → ⊤ → List ℕ → Type 0
+IsSign c _ text = (n : ℕ) × (text ≡ c ∷ replicate n 32)
+
+-- no space stands here
+abbrev pub NoSpace : ℕ → Type 0
+NoSpace b = (b == 32) ≡ false
+
 -- ---- what was read seen as another value, what may be left out, a whole text
 
 abbrev pub mapped : {A B : Type 0} → (A → B) → Result (A × List ℕ) ℕ → Result (B × List ℕ) ℕ
@@ -99,6 +118,22 @@ all_of (Err e) = Err e
 
 abbrev pub whole : {A : Type 0} → Read A → List ℕ → Result A ℕ
 whole r bs = all_of (r bs)
+
+-- a word with the spaces behind it, seen as what it names, and whether there are any spaces
+abbrev pub word_at : {A : Type 0} → List ℕ × A → Read (A × Bool)
+word_at {A} x = map_read (λ s. (x.1, s)) (token true x.0)
+
+abbrev pub IsWord : {A : Type 0} → List ℕ × A → A × Bool → List ℕ → Type 0
+IsWord {A} x = Mapped (λ s. (x.1, s)) (IsToken x.0)
+
+-- one of several words
+abbrev pub one_of : {A : Type 0} → List ℕ × A → List (List ℕ × A) → Read (A × Bool)
+one_of x [] = word_at x
+one_of x (y ∷ ys) = either (word_at x) (one_of y ys)
+
+abbrev pub IsOneOf : {A : Type 0} → List ℕ × A → List (List ℕ × A) → A × Bool → List ℕ → Type 0
+IsOneOf x [] = IsWord x
+IsOneOf x (y ∷ ys) = Either (IsWord x) (IsOneOf y ys)
 
 -- nothing, where no bad byte stands behind it
 abbrev pub ends : {A : Type 0} → (ℕ → Bool) → A → Read A

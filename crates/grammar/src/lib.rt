@@ -2,5 +2,7 @@
 #![tactic(auto)]
 
 mod stop;
+mod words;
 
 pub use stop::{Stop, further};
+pub use words::{read_sign, read_word, skip_spaces};

@@ -1,0 +1,15 @@
+pub mod Behind
+pub mod Capped
+pub mod Listed
+pub mod Numbers
+pub mod Quoted
+pub mod Plain
+pub mod Composed
+pub mod Lists
+pub mod Tracked
+pub mod Answered
+pub mod Utf
+pub mod Whole
+pub mod Decimals
+pub mod Back
+pub mod Utf8Written

@@ -1,0 +1,15 @@
+//! Texts of typed values: literals are read by their types, and each value is written in one way.
+#![tactic(auto)]
+
+mod laws;
+mod reading;
+#[cfg(test)]
+mod tests;
+mod tokens;
+mod values;
+mod writing;
+
+pub use laws::law_literal_texts;
+pub use reading::{LiteralError, read_list, read_value};
+pub use values::{read_marked, read_marked_list};
+pub use writing::{write_list, write_row, write_value};

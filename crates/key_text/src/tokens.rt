@@ -1,0 +1,232 @@
+//! The tokens of literals, from the front of bytes.
+ghost use Rattle.std.specs.Prelude.{◌≡◌, ◌≤◌, ◌<◌, ◌+◌, ◌*◌, ◌^◌, ◌∷◌, [], ℕ, List, length, min, codes, Ok, Err, IfOk, IfErr, IfSome, IfNone, ⊤, true, Option, Some, None};
+ghost use Rattle.grammar.specs.Code.{Gives};
+ghost use Rattle.grammar.specs.Reading.{literal, ends, mapped, map_read, spaces_at};
+ghost use Rattle.grammar.specs.declared.stop.Stop.TheVariants.{At};
+ghost use Rattle.key_text.specs.Tokens.{is_digit, is_hex, hex_value};
+ghost use Rattle.key_text.specs.Reading.{digits_at, positive_at, zero_at, magnitude_at, number_at, capped, capped_all, quoted_at, quoted_by, behind, text_at, hex_at, pair_by, blob_at, no_end, no_close, closing_at, truth_word_at, truth_at};
+
+use grammar::{Stop, further, read_word, skip_spaces};
+use key_types::ByteList;
+use std::alloc::Global;
+
+/// Whether what stands behind a value may stand there.
+fn value_ends(bytes: &[u8]) -> Result<&[u8], Stop>
+    ensures { Gives (λ x. (tt, x.now)) result (ends {A = ⊤} no_end tt bytes.now) }
+{
+    match bytes {
+        [] | [b',' | b')', ..] => Ok(bytes),
+        _ => Err(Stop::At(bytes.len())),
+    }
+}
+
+/// Whether what stands behind the last component of a list may stand there.
+pub fn list_ends(bytes: &[u8]) -> Result<&[u8], Stop>
+    ensures { Gives (λ x. (tt, x.now)) result (ends {A = ⊤} no_close tt bytes.now) }
+{
+    match bytes {
+        [] | [b')', ..] => Ok(bytes),
+        _ => Err(Stop::At(bytes.len())),
+    }
+}
+
+/// The spaces behind a token, and then the end of a value.
+pub fn read_closing(bytes: &[u8]) -> Result<&[u8], Stop>
+    ensures { Gives (λ x. (tt, x.now)) result (closing_at bytes.now) }
+{
+    value_ends(skip_spaces(bytes))
+}
+
+/// The next digit and the bytes behind it, and none where no digit stands.
+fn next_digit(bytes: &[u8]) -> Option<(u64, &[u8])>
+    ensures digit { IfSome result (λ x. (n : ℕ) → digits_at n bytes.now ≡ digits_at (n * 10 + x.0) x.1.now) }
+    ensures bound { IfSome result (λ x. x.0 ≤ 9) }
+    ensures shorter { IfSome result (λ x. length x.1.now < length bytes.now) }
+    ensures none { IfNone result ((n : ℕ) → digits_at n bytes.now ≡ Ok (n, bytes.now)) }
+{
+    match bytes {
+        [b @ b'0'..=b'9', rest @ ..] => Some((u64::from(*b - b'0'), rest)),
+        _ => None,
+    }
+}
+
+/// The digits behind a first one. Numbers above the greatest of 64 bits are read as that.
+fn more_digits(first: u64, bytes: &[u8]) -> (u64, &[u8])
+    requires { first ≤ 9 }
+    ensures { capped_all (digits_at first bytes.now) ≡ Ok (result.0, result.1.now) }
+{
+    let mut value = first;
+    let mut rest = bytes;
+    'digits: while let Some((digit, after)) = next_digit(rest) {
+        value = value.saturating_mul(10).saturating_add(digit);
+        rest = after;
+    }
+    (value, rest)
+}
+
+/// Digits that begin with no 0.
+fn read_positive(bytes: &[u8]) -> Result<(u64, &[u8]), Stop>
+    ensures { Gives (λ x. (x.0, x.1.now)) result (capped_all (positive_at bytes.now)) }
+{
+    match bytes {
+        [b @ b'1'..=b'9', rest @ ..] => Ok(more_digits(u64::from(*b - b'0'), rest)),
+        _ => Err(Stop::At(bytes.len())),
+    }
+}
+
+/// Digits without leading zeros.
+fn read_magnitude(bytes: &[u8]) -> Result<(u64, &[u8]), Stop>
+    ensures { Gives (λ x. (x.0, x.1.now)) result (capped_all (magnitude_at bytes.now)) }
+{
+    match bytes {
+        [b'0', b'0'..=b'9', ..] => Err(Stop::At(bytes.len() - 1)),
+        [b'0', rest @ ..] => Ok((0, rest)),
+        _ => read_positive(bytes),
+    }
+}
+
+/// A number of any size: whether there is a minus, and the number without it.
+pub fn read_number(bytes: &[u8]) -> Result<(bool, u64, &[u8]), Stop>
+    ensures { Gives (λ x. ((x.0, x.1), x.2.now)) result (mapped capped (number_at bytes.now)) }
+{
+    match bytes {
+        [b'-', rest @ ..] => {
+            let (number, rest) = read_positive(rest)?;
+            Ok((true, number, rest))
+        }
+        _ => {
+            let (number, rest) = read_magnitude(bytes)?;
+            Ok((false, number, rest))
+        }
+    }
+}
+
+/// The next byte of a quoted text, and none behind its last.
+fn next_byte(bytes: &[u8]) -> Result<(Option<u8>, &[u8]), Stop>
+    ensures ok { IfOk result (λ x. quoted_at bytes.now ≡ quoted_by x.0 x.1.now) }
+    ensures shorter { IfOk result (λ x. length x.1.now < length bytes.now) }
+    ensures err { IfErr result (λ e. (e ≡ At 0) × (quoted_at bytes.now ≡ Err 0)) }
+{
+    match bytes {
+        [b'\'', b'\'', rest @ ..] => Ok((Some(b'\''), rest)),
+        [b'\'', rest @ ..] => Ok((None, rest)),
+        [b, rest @ ..] => Ok((Some(*b), rest)),
+        [] => Err(Stop::At(0)),
+    }
+}
+
+/// The bytes of a text behind its first quote, up to its last.
+#[tactic(auto, using(crate::proofs::Behind::behind_push))]
+fn read_quoted(alloc: Global, bytes: &[u8]) -> Result<(ByteList, &[u8]), Stop>
+    ensures { Gives (λ x. (x.0, x.1.now)) result (quoted_at bytes.now) }
+{
+    let mut out = ByteList::new(alloc);
+    let mut rest = bytes;
+    'bytes: loop {
+        let (next, after) = next_byte(rest)?;
+        let Some(byte) = next else {
+            return Ok((out, after));
+        };
+        if out.push(byte).is_err() {
+            return Err(Stop::Memory);
+        }
+        rest = after;
+    }
+}
+
+/// A text in quotes.
+pub fn read_text(alloc: Global, bytes: &[u8]) -> Result<(ByteList, &[u8]), Stop>
+    ensures { Gives (λ x. (x.0, x.1.now)) result (text_at bytes.now) }
+{
+    match bytes {
+        [b'\'', rest @ ..] => read_quoted(alloc, rest),
+        _ => Err(Stop::At(bytes.len())),
+    }
+}
+
+/// Whether the byte is a hexadecimal digit.
+fn is_hex(byte: u8) -> bool
+    ensures { result ≡ is_hex byte }
+{
+    byte.is_ascii_hexdigit()
+}
+
+/// The value of a hexadecimal digit.
+fn hex_value(byte: u8) -> u8
+    requires { is_hex byte ≡ true }
+    ensures value { result ≡ hex_value byte }
+    ensures bound { result < 16 }
+{
+    match byte {
+        b'0'..=b'9' => byte - b'0',
+        b'a'..=b'f' => byte - b'a' + 10,
+        _ => byte - b'A' + 10,
+    }
+}
+
+/// The next byte of a blob, and none where no digit stands.
+fn next_pair(bytes: &[u8]) -> Result<(Option<u8>, &[u8]), Stop>
+    ensures ok { IfOk result (λ x. hex_at bytes.now ≡ pair_by x.0 x.1.now) }
+    ensures shorter { IfOk result (λ x. IfSome x.0 (λ _. length x.1.now < length bytes.now)) }
+    ensures err { IfErr result (λ e. (left : ℕ) × (e ≡ At left) × (hex_at bytes.now ≡ Err left)) }
+{
+    match bytes {
+        [high, low, rest @ ..] if is_hex(*high) && is_hex(*low) => {
+            Ok((Some(hex_value(*high) * 16 + hex_value(*low)), rest))
+        }
+        [high, rest @ ..] if is_hex(*high) => Err(Stop::At(rest.len())),
+        _ => Ok((None, bytes)),
+    }
+}
+
+/// The bytes of a blob, two digits for each.
+#[tactic(auto, using(crate::proofs::Behind::behind_push))]
+fn read_hex(alloc: Global, bytes: &[u8]) -> Result<(ByteList, &[u8]), Stop>
+    ensures { Gives (λ x. (x.0, x.1.now)) result (hex_at bytes.now) }
+{
+    let mut out = ByteList::new(alloc);
+    let mut rest = bytes;
+    'pairs: loop {
+        let (next, after) = next_pair(rest)?;
+        let Some(byte) = next else {
+            return Ok((out, after));
+        };
+        if out.push(byte).is_err() {
+            return Err(Stop::Memory);
+        }
+        rest = after;
+    }
+}
+
+/// `0x` and two hexadecimal digits for each byte.
+pub fn read_blob(alloc: Global, bytes: &[u8]) -> Result<(ByteList, &[u8]), Stop>
+    ensures { Gives (λ x. (x.0, x.1.now)) result (blob_at bytes.now) }
+{
+    match bytes {
+        [b'0', b'x', rest @ ..] => read_hex(alloc, rest),
+        [b'0', rest @ ..] => Err(Stop::At(rest.len())),
+        _ => Err(Stop::At(bytes.len())),
+    }
+}
+
+/// The word of a boolean, and whether spaces stand behind it.
+fn read_truth_word(bytes: &[u8]) -> Result<(bool, bool, &[u8]), Stop>
+    ensures { Gives (λ x. ((x.0, x.1), x.2.now)) result (truth_word_at bytes.now) }
+{
+    match read_word(b"true", bytes) {
+        Ok((spaced, rest)) => Ok((true, spaced, rest)),
+        Err(first) => match read_word(b"false", bytes) {
+            Ok((spaced, rest)) => Ok((false, spaced, rest)),
+            Err(second) => Err(further(first, second)),
+        },
+    }
+}
+
+/// A boolean, and then the end of a value.
+pub fn read_truth(bytes: &[u8]) -> Result<(bool, &[u8]), Stop>
+    ensures { Gives (λ x. (x.0, x.1.now)) result (truth_at bytes.now) }
+{
+    let (truth, _, rest) = read_truth_word(bytes)?;
+    let rest = value_ends(rest)?;
+    Ok((truth, rest))
+}

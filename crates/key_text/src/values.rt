@@ -1,0 +1,177 @@
+ghost use Rattle.std.specs.Prelude.{◌≡◌, ◌≤◌, ℕ, ◌^◌, Option, Some, None};
+ghost use Rattle.grammar.specs.Code.{Gives};
+ghost use Rattle.key_types.specs.Kinds.{kind_of, kinds_of, value_of, values_of};
+ghost use Rattle.key_text.specs.Marking.{kept, first_of, marked_number_at, marked_at, marked_all, marked_rest, marked_list};
+ghost use Rattle.key_text.specs.Reading.{closed, text_at, blob_at};
+
+use crate::tokens::{list_ends, read_blob, read_closing, read_number, read_text, read_truth};
+use grammar::{Stop, read_sign};
+use key_types::{ByteList, ColType, TypeList, Value, ValueList};
+use std::alloc::Global;
+
+/// The number, where it is within the bound: from the negative of the bound on and below it.
+fn within(bound: u64, negative: bool, number: u64) -> Option<i64>
+    requires { bound ≤ 2 ^ 63 }
+    ensures { result ≡ kept bound negative number }
+{
+    if negative {
+        if number == 0 {
+            Some(0)
+        } else if number <= bound {
+            Some(-1 - (number - 1) as i64)
+        } else {
+            None
+        }
+    } else if number < bound {
+        Some(number as i64)
+    } else {
+        None
+    }
+}
+
+/// Marks a place, unless one before it is marked.
+fn mark(outside: &mut Option<usize>, left: usize)
+    ensures { outside.new ≡ first_of outside.old left }
+{
+    if outside.is_none() {
+        *outside = Some(left);
+    }
+}
+
+/// A number of a type whose numbers are within the bound. One that isn't is marked, and read as 0.
+fn read_within<'a>(
+    bound: u64,
+    outside: &mut Option<usize>,
+    bytes: &'a [u8],
+) -> Result<(Value, &'a [u8]), Stop>
+    requires { bound ≤ 2 ^ 63 }
+    ensures { Gives (λ x. ((value_of x.0, outside.new), x.1.now)) result (marked_number_at bound outside.old bytes.now) }
+{
+    let (negative, number, rest) = read_number(bytes)?;
+    let rest = read_closing(rest)?;
+    match within(bound, negative, number) {
+        Some(number) => Ok((Value::Number(number), rest)),
+        None => {
+            mark(outside, bytes.len());
+            Ok((Value::Number(0), rest))
+        }
+    }
+}
+
+/// A text, up to the end of a value.
+fn read_closed_text(alloc: Global, bytes: &[u8]) -> Result<(ByteList, &[u8]), Stop>
+    ensures { Gives (λ x. (x.0, x.1.now)) result (closed text_at bytes.now) }
+{
+    let (text, rest) = read_text(alloc, bytes)?;
+    let rest = read_closing(rest)?;
+    Ok((text, rest))
+}
+
+/// A blob, up to the end of a value.
+fn read_closed_blob(alloc: Global, bytes: &[u8]) -> Result<(ByteList, &[u8]), Stop>
+    ensures { Gives (λ x. (x.0, x.1.now)) result (closed blob_at bytes.now) }
+{
+    let (blob, rest) = read_blob(alloc, bytes)?;
+    let rest = read_closing(rest)?;
+    Ok((blob, rest))
+}
+
+/// A value of the type and the bytes behind it. The first number that passes its type is marked by how many bytes are left where it begins.
+#[cycle(read)]
+pub fn read_marked<'a>(
+    alloc: Global,
+    kind: &ColType,
+    outside: &mut Option<usize>,
+    bytes: &'a [u8],
+) -> Result<(Value, &'a [u8]), Stop>
+    ensures { Gives (λ x. ((value_of x.0, outside.new), x.1.now)) result (marked_at (kind_of kind.now) outside.old bytes.now) }
+{
+    match kind {
+        ColType::TinyInt => read_within(0x80, outside, bytes),
+        ColType::SmallInt => read_within(0x8000, outside, bytes),
+        ColType::Int => read_within(0x8000_0000, outside, bytes),
+        ColType::BigInt => read_within(0x8000_0000_0000_0000, outside, bytes),
+        ColType::Text => {
+            let (text, rest) = read_closed_text(alloc, bytes)?;
+            Ok((Value::Bytes(text), rest))
+        }
+        ColType::Blob => {
+            let (blob, rest) = read_closed_blob(alloc, bytes)?;
+            Ok((Value::Bytes(blob), rest))
+        }
+        ColType::Boolean => {
+            let (truth, rest) = read_truth(bytes)?;
+            Ok((Value::Truth(truth), rest))
+        }
+        ColType::Tuple(kinds) => {
+            let (values, rest) = read_marked_list(alloc, kinds, outside, bytes)?;
+            Ok((Value::Tuple(values), rest))
+        }
+        ColType::Reversed(inner) => read_marked(alloc, inner, outside, bytes),
+    }
+}
+
+/// Components in parentheses, one of each type.
+#[cycle(read)]
+pub fn read_marked_list<'a>(
+    alloc: Global,
+    kinds: &TypeList,
+    outside: &mut Option<usize>,
+    bytes: &'a [u8],
+) -> Result<(ValueList, &'a [u8]), Stop>
+    ensures { Gives (λ x. ((values_of x.0, outside.new), x.1.now)) result (marked_list (kinds_of kinds.now) outside.old bytes.now) }
+{
+    let rest = read_sign(b'(', bytes)?;
+    let (values, rest) = read_marked_all(alloc, kinds, outside, rest)?;
+    let rest = read_sign(b')', rest)?;
+    Ok((values, rest))
+}
+
+/// Components with a comma between each two.
+#[cycle(read)]
+fn read_marked_all<'a>(
+    alloc: Global,
+    kinds: &TypeList,
+    outside: &mut Option<usize>,
+    bytes: &'a [u8],
+) -> Result<(ValueList, &'a [u8]), Stop>
+    ensures { Gives (λ x. ((values_of x.0, outside.new), x.1.now)) result (marked_all (kinds_of kinds.now) outside.old bytes.now) }
+{
+    match kinds {
+        TypeList::End => {
+            let rest = list_ends(bytes)?;
+            Ok((ValueList::End, rest))
+        }
+        TypeList::More(kind, kinds) => {
+            let (value, rest) = read_marked(alloc, kind, outside, bytes)?;
+            let (values, rest) = read_marked_rest(alloc, kinds, outside, rest)?;
+            let values = ValueList::More(Box::new(alloc, value)?, Box::new(alloc, values)?);
+            Ok((values, rest))
+        }
+    }
+}
+
+/// Components with a comma before each.
+#[cycle(read)]
+fn read_marked_rest<'a>(
+    alloc: Global,
+    kinds: &TypeList,
+    outside: &mut Option<usize>,
+    bytes: &'a [u8],
+) -> Result<(ValueList, &'a [u8]), Stop>
+    ensures { Gives (λ x. ((values_of x.0, outside.new), x.1.now)) result (marked_rest (kinds_of kinds.now) outside.old bytes.now) }
+{
+    match kinds {
+        TypeList::End => {
+            let rest = list_ends(bytes)?;
+            Ok((ValueList::End, rest))
+        }
+        TypeList::More(kind, kinds) => {
+            let rest = read_sign(b',', bytes)?;
+            let (value, rest) = read_marked(alloc, kind, outside, rest)?;
+            let (values, rest) = read_marked_rest(alloc, kinds, outside, rest)?;
+            let values = ValueList::More(Box::new(alloc, value)?, Box::new(alloc, values)?);
+            Ok((values, rest))
+        }
+    }
+}

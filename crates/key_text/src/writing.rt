@@ -1,0 +1,245 @@
+ghost use Rattle.std.specs.Prelude.{◌≡◌, ◌<◌, ◌++◌, ◌∷◌, [], length, take, OnOk, OnErr};
+ghost use Rattle.std.specs.Fmt.{signed_decimal};
+ghost use Rattle.key_types.specs.Kinds.{kind_of, kinds_of, value_of, values_of, Fits, EachFits};
+ghost use Rattle.key_types.specs.Literals.{text_literal, blob_literal, boolean_literal, hex_digit, quotes_doubled, hex_digits, literal, literals, list_literal};
+ghost use Rattle.key_text.specs.Written.{further_literals, value_literal, equals_literal, key_literal, row_literal};
+
+use itoa::Buffer;
+use key_types::{ByteList, ColType, NoMemory, Schema, TypeList, Value, ValueList, ValueType};
+
+/// Puts a number at the end in decimal.
+fn put_number(number: i64, out: &mut ByteList) -> Result<(), NoMemory>
+    ensures ok { OnOk result (out.new ≡ out.old ++ signed_decimal number) }
+    ensures kept { take (length out.old) out.new ≡ out.old }
+{
+    let mut digits = Buffer::new();
+    out.extend(digits.format(number).as_bytes())
+}
+
+/// Puts bytes at the end, each quote twice.
+fn put_doubled(text: &[u8], out: &mut ByteList) -> Result<(), NoMemory>
+    ensures ok { OnOk result (out.new ≡ out.old ++ quotes_doubled text.now) }
+    ensures kept { take (length out.old) out.new ≡ out.old }
+{
+    for byte in text {
+        if *byte == b'\'' {
+            out.push(b'\'')?;
+        }
+        out.push(*byte)?;
+    }
+    Ok(())
+}
+
+/// Puts a text in quotes at the end.
+fn put_text(text: &[u8], out: &mut ByteList) -> Result<(), NoMemory>
+    ensures ok { OnOk result (out.new ≡ out.old ++ text_literal text.now) }
+    ensures kept { take (length out.old) out.new ≡ out.old }
+{
+    out.push(b'\'')?;
+    put_doubled(text, out)?;
+    out.push(b'\'')
+}
+
+/// The hexadecimal digit of a number below 16, in lower case.
+fn hex_digit(number: u8) -> u8
+    requires { number < 16 }
+    ensures { result ≡ hex_digit number }
+{
+    if number < 10 {
+        b'0' + number
+    } else {
+        b'a' + (number - 10)
+    }
+}
+
+/// Puts two hexadecimal digits for each byte at the end.
+fn put_hex(bytes: &[u8], out: &mut ByteList) -> Result<(), NoMemory>
+    ensures ok { OnOk result (out.new ≡ out.old ++ hex_digits bytes.now) }
+    ensures kept { take (length out.old) out.new ≡ out.old }
+{
+    for byte in bytes {
+        out.push(hex_digit(*byte / 16))?;
+        out.push(hex_digit(*byte % 16))?;
+    }
+    Ok(())
+}
+
+/// Puts a blob at the end.
+fn put_blob(bytes: &[u8], out: &mut ByteList) -> Result<(), NoMemory>
+    ensures ok { OnOk result (out.new ≡ out.old ++ blob_literal bytes.now) }
+    ensures kept { take (length out.old) out.new ≡ out.old }
+{
+    out.extend(b"0x")?;
+    put_hex(bytes, out)
+}
+
+/// Puts a boolean at the end.
+fn put_boolean(truth: bool, out: &mut ByteList) -> Result<(), NoMemory>
+    ensures ok { OnOk result (out.new ≡ out.old ++ boolean_literal truth) }
+    ensures kept { take (length out.old) out.new ≡ out.old }
+{
+    if truth {
+        out.extend(b"true")
+    } else {
+        out.extend(b"false")
+    }
+}
+
+/// Puts the literal of a value at the end.
+#[cycle(put)]
+fn put_value(kind: &ColType, value: &Value, out: &mut ByteList) -> Result<(), NoMemory>
+    ensures ok { OnOk result (out.new ≡ out.old ++ literal (kind_of kind.now) (value_of value.now)) }
+    ensures kept { take (length out.old) out.new ≡ out.old }
+{
+    match (kind, value) {
+        (ColType::Text, Value::Bytes(text)) => put_text(text.as_slice(), out),
+        (ColType::Blob, Value::Bytes(bytes)) => put_blob(bytes.as_slice(), out),
+        (ColType::Boolean, Value::Truth(truth)) => put_boolean(*truth, out),
+        (ColType::Tuple(kinds), Value::Tuple(values)) => put_list(kinds, values, out),
+        (ColType::Reversed(inner), _) => put_value(inner, value, out),
+        (_, Value::Number(number)) => put_number(*number, out),
+        _ => Ok(()),
+    }
+}
+
+/// Puts components in parentheses at the end.
+#[cycle(put)]
+fn put_list(kinds: &TypeList, values: &ValueList, out: &mut ByteList) -> Result<(), NoMemory>
+    ensures ok { OnOk result (out.new ≡ out.old ++ list_literal (kinds_of kinds.now) (values_of values.now)) }
+    ensures kept { take (length out.old) out.new ≡ out.old }
+{
+    out.push(b'(')?;
+    put_values(kinds, values, out)?;
+    out.push(b')')
+}
+
+/// Puts components at the end, with a comma and a space between each two.
+#[cycle(put)]
+fn put_values(kinds: &TypeList, values: &ValueList, out: &mut ByteList) -> Result<(), NoMemory>
+    ensures ok { OnOk result (out.new ≡ out.old ++ literals (kinds_of kinds.now) (values_of values.now)) }
+    ensures kept { take (length out.old) out.new ≡ out.old }
+{
+    match (kinds, values) {
+        (TypeList::More(kind, kinds), ValueList::More(value, values)) => {
+            put_value(kind, value, out)?;
+            put_further(kinds, values, out)
+        }
+        _ => Ok(()),
+    }
+}
+
+/// Puts the components behind one at the end, with a comma and a space before them, where there are some.
+#[cycle(put)]
+fn put_further(kinds: &TypeList, values: &ValueList, out: &mut ByteList) -> Result<(), NoMemory>
+    ensures ok { OnOk result (out.new ≡ out.old ++ further_literals (kinds_of kinds.now) (values_of values.now)) }
+    ensures kept { take (length out.old) out.new ≡ out.old }
+{
+    match (kinds, values) {
+        (TypeList::End, ValueList::End) => Ok(()),
+        _ => {
+            out.extend(b", ")?;
+            put_values(kinds, values, out)
+        }
+    }
+}
+
+/// Puts the literal of a value that fits its type at the end. Without memory `out` is as before.
+pub fn write_value(kind: &ColType, value: &Value, out: &mut ByteList) -> Result<(), NoMemory>
+    requires { Fits (kind_of kind.now) (value_of value.now) }
+    ensures ok { OnOk result (out.new ≡ out.old ++ literal (kind_of kind.now) (value_of value.now)) }
+    ensures err { OnErr result (out.new ≡ out.old) }
+{
+    let before = out.len();
+    let written = put_value(kind, value, out);
+    if written.is_err() {
+        out.truncate(before);
+    }
+    written
+}
+
+/// Puts the components of a key or a part of it at the end, each of which fits. Without memory `out` is as before.
+pub fn write_list(kinds: &TypeList, values: &ValueList, out: &mut ByteList) -> Result<(), NoMemory>
+    requires { EachFits (kinds_of kinds.now) (values_of values.now) }
+    ensures ok { OnOk result (out.new ≡ out.old ++ list_literal (kinds_of kinds.now) (values_of values.now)) }
+    ensures err { OnErr result (out.new ≡ out.old) }
+{
+    let before = out.len();
+    let written = put_list(kinds, values, out);
+    if written.is_err() {
+        out.truncate(before);
+    }
+    written
+}
+
+/// Puts a value of a row at the end.
+fn put_row_value(kind: ValueType, value: &[u8], out: &mut ByteList) -> Result<(), NoMemory>
+    ensures ok { OnOk result (out.new ≡ out.old ++ value_literal kind value.now) }
+    ensures kept { take (length out.old) out.new ≡ out.old }
+{
+    match kind {
+        ValueType::Text => put_text(value, out),
+        ValueType::Blob => put_blob(value, out),
+    }
+}
+
+/// Puts an equals sign and a value of a row at the end.
+fn put_equals(kind: ValueType, value: &[u8], out: &mut ByteList) -> Result<(), NoMemory>
+    ensures ok { OnOk result (out.new ≡ out.old ++ equals_literal kind value.now) }
+    ensures kept { take (length out.old) out.new ≡ out.old }
+{
+    out.extend(b" = ")?;
+    put_row_value(kind, value, out)
+}
+
+/// Puts the partition's components and those within it at the end.
+fn put_key(
+    schema: &Schema,
+    partition: &ValueList,
+    clustering: &ValueList,
+    out: &mut ByteList,
+) -> Result<(), NoMemory>
+    ensures ok { OnOk result (out.new ≡ out.old ++ key_literal (kinds_of schema.now.partition) (kinds_of schema.now.clustering) (values_of partition.now) (values_of clustering.now)) }
+    ensures kept { take (length out.old) out.new ≡ out.old }
+{
+    put_list(&schema.partition, partition, out)?;
+    out.extend(b" ")?;
+    put_list(&schema.clustering, clustering, out)
+}
+
+/// Puts the partition's components, those within it and the value at the end.
+fn put_row(
+    schema: &Schema,
+    partition: &ValueList,
+    clustering: &ValueList,
+    value: &[u8],
+    out: &mut ByteList,
+) -> Result<(), NoMemory>
+    ensures ok { OnOk result (out.new ≡ out.old ++ row_literal (kinds_of schema.now.partition) (kinds_of schema.now.clustering) schema.now.value
+        (values_of partition.now) (values_of clustering.now) value.now) }
+    ensures kept { take (length out.old) out.new ≡ out.old }
+{
+    put_key(schema, partition, clustering, out)?;
+    put_equals(schema.value, value, out)
+}
+
+/// Puts a row at the end, without a line feed: the partition's components, those within it, an equals sign and the value. Without memory `out` is as before.
+pub fn write_row(
+    schema: &Schema,
+    partition: &ValueList,
+    clustering: &ValueList,
+    value: &[u8],
+    out: &mut ByteList,
+) -> Result<(), NoMemory>
+    requires partition { EachFits (kinds_of schema.now.partition) (values_of partition.now) }
+    requires clustering { EachFits (kinds_of schema.now.clustering) (values_of clustering.now) }
+    ensures ok { OnOk result (out.new ≡ out.old ++ row_literal (kinds_of schema.now.partition) (kinds_of schema.now.clustering) schema.now.value
+        (values_of partition.now) (values_of clustering.now) value.now) }
+    ensures err { OnErr result (out.new ≡ out.old) }
+{
+    let before = out.len();
+    let written = put_row(schema, partition, clustering, value, out);
+    if written.is_err() {
+        out.truncate(before);
+    }
+    written
+}

@@ -1,0 +1,13 @@
+mod Fuel
+mod Relation
+mod Exactly
+mod Wholly
+mod Spelled
+mod Named
+mod Texts
+mod Agree
+mod Parsed
+mod Bounded
+mod Written
+mod Short
+mod Unique

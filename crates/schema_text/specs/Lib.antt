@@ -1,0 +1,7 @@
+pub mod Columns
+pub mod Grammar
+pub mod Canonical
+pub mod Reading
+pub mod Parts
+pub mod Answers
+pub mod Laws
