@@ -18,3 +18,6 @@ pub mod BodyLemmas
 pub mod Costs
 pub mod BodyLengths
 pub mod StoreShape
+pub mod Homes
+pub mod Leaves
+pub mod Exits
