@@ -1,6 +1,8 @@
 -- What the end of a walk tells in a well-formed image.
-use Rattle.std.proofs.Common.{◌≡◌, ◌≢◌, ◌⊎◌, ℕ, suc, ◌+◌, ◌/◌, ◌%◌, ◌<◌, ◌==◌, nat_lt, Bool, true, false, cond, List, [], ◌∷◌, ◌++◌, length, Option, Some, None, refl, sym, ap, ◌∙◌, subst, inl, inr, ⊎_elim, arith, append_assoc, append-nil, length-append, eq-eqb, ne_eqb, eqb-true, ltb-true, lt-ltb}
-use Rattle.std.proofs.lemmas.Bool.{cond-true, cond-false, eqb-false, ltb-false}
+use Rattle.std.proofs.Common.{◌≡◌, ◌≢◌, ◌⊎◌, ℕ, suc, ◌+◌, ◌-◌, ◌/◌, ◌%◌, ◌<◌, ◌==◌, nat_lt, Bool, true, false, cond, List, [], ◌∷◌, ◌++◌, length, slice_index, Option, Some, None, refl, sym, ap, ap₂, ◌∙◌, subst, inl, inr, ⊎_elim, arith, append_assoc, append-nil, length-append, eq-eqb, ne_eqb, eqb-true, ltb-true, lt-ltb}
+use Rattle.std.proofs.lemmas.List.{get_or_append_left}
+use Rattle.std.proofs.Math.Seq.{get_or-append_seam}
+use Rattle.std.proofs.lemmas.Bool.{cases_eq, cond-true, cond-false, eqb-false, ltb-false}
 use Rattle.cell_layout.specs.declared.Kind.{Kind}
 use Rattle.cell_layout.specs.declared.Kind.TheVariants as kind
 use Rattle.cell_layout.specs.Pointers.{kind_at}
@@ -23,6 +25,9 @@ use Rattle.trie_image.proofs.Betters.{reads_on}
 use Rattle.trie_image.proofs.Live.{Walks}
 use Rattle.trie_image.proofs.Homes.{Over, itself, by_prefix, Reaches, IsMidUnder, IsSplitAt, Home, root, tail, slot, leaf, content, node}
 use Rattle.trie_image.proofs.Leaves.{AreBytes, StandsAt, LeavesBy, Leaves}
+
+add_zero : (n : ℕ) → n ≡ n + 0
+add_zero n = omega arith
 
 -- a pointer with a path is not 0
 pub path_nonzero : (g : Ledger) (p : ℕ) (q : List ℕ) → HasPath g p q → p ≢ 0
@@ -71,6 +76,9 @@ module _ (w : List ℕ) (g : Ledger) (cells : ℕ) (ok : IsImage w g cells) wher
     home = subst (λ (x : List ℕ). Home w g x s.cell s.field) (sym same) h.home;
     entered = λ ne. subst (λ (x : List ℕ). HasPath g s.entered x) (sym same) (h.entered ne);
     reads = subst (λ (x : List ℕ). Reads (reading w) s.entered x s.at) e h.reads;
+    forward = h.forward ∙ ap (λ (x : List ℕ). s.entered + length x) e;
+    offset = omega arith;
+    bytes = λ i l. absurd (omega arith);
     passed = sym (append-nil path);
     at_path = h.at_path;
   }
@@ -104,7 +112,7 @@ module _ (w : List ℕ) (g : Ledger) (cells : ℕ) (ok : IsImage w g cells) wher
         path ++ b ∷ [],
         [],
         record {
-          stands = record { held = refl; home = home; entered = λ ne. (arrives (field w cell place) e ne).0; reads = refl; passed = sym (append-nil (path ++ b ∷ [])); at_path = λ ne. (arrives (field w cell place) e ne).0 };
+          stands = record { held = refl; home = home; entered = λ ne. (arrives (field w cell place) e ne).0; reads = refl; forward = add_zero _; offset = omega arith; bytes = λ i l. absurd (omega arith); passed = sym (append-nil (path ++ b ∷ [])); at_path = λ ne. (arrives (field w cell place) e ne).0 };
           walks = λ ne. (arrives (field w cell place) e ne).1;
           plain = inl refl;
         },
@@ -132,12 +140,18 @@ module _ (w : List ℕ) (g : Ledger) (cells : ℕ) (ok : IsImage w g cells) wher
           own_children w s.at b is_node ∙ (byte_led e ∙ cond-false (s.at % 32 == 27) (field w (s.at / 32) 7) (s.at + 1) (ne_eqb (s.at % 32) 27 l)),
         )
 
+        more_bytes : cell_byte w (s.at / 32) (s.at % 32) ≡ b → s.at % 32 ≢ 27 → (i : ℕ) → i < length (m ++ b ∷ []) → cell_byte w ((s.at + 1) / 32) ((s.at + 1) % 32 - length (m ++ b ∷ []) + i) ≡ slice_index (m ++ b ∷ []) i
+        more_bytes e l i less = let place = next_byte s.at k l in let more = length-append m (b ∷ []) in let back : (s.at + 1) % 32 - length (m ++ b ∷ []) + i ≡ s.at % 32 - length m + i = omega (arith, more, place.2) in
+            ap₂ (λ (x y : ℕ). cell_byte w x y) place.1 back ∙ ⊎_elim
+            (λ (z : i ≡ length m). let here : s.at % 32 - length m + i ≡ s.at % 32 = omega (arith, stands.offset) in ap (λ (x : ℕ). cell_byte w (s.at / 32) x) here ∙ (e ∙ sym (ap (λ (x : ℕ). slice_index (m ++ b ∷ []) x) z ∙ get_or-append_seam m b [] 0)))
+            (λ (ne : i ≢ length m). let old : i < length m = omega (arith, more) in stands.bytes i old ∙ sym (get_or_append_left m (b ∷ []) 0 i old)) (cases_eq i (length m))
+
         to_next : cell_byte w (s.at / 32) (s.at % 32) ≡ b → s.at % 32 ≢ 27 → Steps (On record { cell = s.cell; field = s.field; entered = s.entered; at = s.at + 1 })
-        to_next e l = let goes : node_child w s.at b (kind_at s.at) ≡ s.at + 1 = byte_led e ∙ cond-false (s.at % 32 == 27) (field w (s.at / 32) 7) (s.at + 1) (ne_eqb (s.at % 32) 27 l) in let h = stands in (
+        to_next e l = let goes : node_child w s.at b (kind_at s.at) ≡ s.at + 1 = byte_led e ∙ cond-false (s.at % 32 == 27) (field w (s.at / 32) 7) (s.at + 1) (ne_eqb (s.at % 32) 27 l) in let h = stands in let place = next_byte s.at k l in let more = length-append m (b ∷ []) in (
           q,
           m ++ b ∷ [],
           record {
-            stands = record { held = h.held; home = h.home; entered = h.entered; reads = reads_on (reading w) m (b ∷ []) s.entered s.at (s.at + 1) h.reads (one_byte e l); passed = ap (λ (x : List ℕ). x ++ b ∷ []) h.passed ∙ append_assoc q m (b ∷ []); at_path = λ ne. (arrives (s.at + 1) goes ne).0 };
+            stands = record { held = h.held; home = h.home; entered = h.entered; reads = reads_on (reading w) m (b ∷ []) s.entered s.at (s.at + 1) h.reads (one_byte e l); forward = omega (arith, h.forward, more); offset = omega (arith, h.offset, more, place.2); bytes = more_bytes e l; passed = ap (λ (x : List ℕ). x ++ b ∷ []) h.passed ∙ append_assoc q m (b ∷ []); at_path = λ ne. (arrives (s.at + 1) goes ne).0 };
             walks = λ ne. (arrives (s.at + 1) goes ne).1;
             plain = inr (next_byte s.at k l).0;
           },
@@ -201,7 +215,7 @@ module _ (w : List ℕ) (g : Ledger) (cells : ℕ) (ok : IsImage w g cells) wher
       under : kind_at s.at ≡ Some kind.Prefix → Steps (node_step w b (stand_in w (s.at / 32) 1) (kind_at (field w (s.at / 32) 1)))
       under k = let ne : s.at ≢ 0 = (is_kind s.at (Some kind.Prefix) k).0 in let at : HasPath g s.at path = here.stands.at_path ne in let own = prefix_of g s.at path at k in let cell : IsPrefixCell w g (s.at / 32) path = ok.each (s.at / 32) (PrefixCell path) own in
           node_steps small (stand_in w (s.at / 32) 1) path []
-          record { held = refl; home = node record { prefix = s.at; walks = here.walks ne; path = at; kind = k; here = refl; own = own } refl; entered = λ z. cell.node; reads = refl; passed = sym (append-nil path); at_path = λ z. cell.node } (inl refl) cell.is_node
+          record { held = refl; home = node record { prefix = s.at; walks = here.walks ne; path = at; kind = k; here = refl; own = own } refl; entered = λ z. cell.node; reads = refl; forward = add_zero _; offset = omega arith; bytes = λ i l. absurd (omega arith); passed = sym (append-nil path); at_path = λ z. cell.node } (inl refl) cell.is_node
           record { last = s.at; walks = here.walks ne; last_path = at; over = by_prefix k refl; node = cell.node } (kind_at (field w (s.at / 32) 1)) refl
 
       byte_steps : (k : Option Kind) → kind_at s.at ≡ k → Steps (byte_step w b s k)
@@ -219,7 +233,7 @@ module _ (w : List ℕ) (g : Ledger) (cells : ℕ) (ok : IsImage w g cells) wher
     ends s q m taken here so_far (Some kind.Nothing) e = record { path = key; rest = []; whole = append-nil key; so_far = so_far; stands = plainly q m key s here.stands here.plain (λ z. let both : Some kind.Chain ≡ Some kind.Nothing = sym z ∙ e in cc); is_nothing = is_kind s.at (Some kind.Nothing) e }
     ends s q m taken here so_far (Some kind.Content) e = record { stands = plainly q m key s here.stands here.plain (λ z. let both : Some kind.Chain ≡ Some kind.Content = sym z ∙ e in cc); is_content = e }
     ends s q m taken here so_far (Some kind.Prefix) e = let ne : s.at ≢ 0 = (is_kind s.at (Some kind.Prefix) e).0 in let at : HasPath g s.at key = here.stands.at_path ne in let own = prefix_of g s.at key at e in let cell : IsPrefixCell w g (s.at / 32) key = ok.each (s.at / 32) (PrefixCell key) own in record {
-      stands = record { held = refl; home = content record { prefix = s.at; walks = here.walks ne; path = at; kind = e; here = refl; own = own } refl; entered = λ z. cell.content; reads = refl; passed = sym (append-nil key); at_path = λ z. cell.content };
+      stands = record { held = refl; home = content record { prefix = s.at; walks = here.walks ne; path = at; kind = e; here = refl; own = own } refl; entered = λ z. cell.content; reads = refl; forward = add_zero _; offset = omega arith; bytes = λ i l. absurd (omega arith); passed = sym (append-nil key); at_path = λ z. cell.content };
       is_content = cell.is_content;
     }
     ends s q m taken here so_far (Some kind.Chain) e = record { home_path = q; inside = m; stands = here.stands; is_node = inl e }
@@ -241,7 +255,7 @@ module _ (w : List ℕ) (g : Ledger) (cells : ℕ) (ok : IsImage w g cells) wher
     -- the end of the walk to the key
     pub leaves : AreBytes key → Leaves w g key (exit_of w key)
     leaves bytes = exits key (stand_in w 0 2) [] [] [] 0 bytes record {
-      stands = record { held = refl; home = root refl refl refl; entered = λ ne. ok.root ne; reads = refl; passed = refl; at_path = λ ne. ok.root ne };
+      stands = record { held = refl; home = root refl refl refl; entered = λ ne. ok.root ne; reads = refl; forward = add_zero _; offset = omega arith; bytes = λ i l. absurd (omega arith); passed = refl; at_path = λ ne. ok.root ne };
       walks = λ ne. refl;
       plain = inl refl;
     } refl refl

@@ -1,5 +1,5 @@
 -- What the end of a walk tells, by the case that it meets.
-use Rattle.std.proofs.Common.{◌≡◌, ◌≢◌, ◌⊎◌, ℕ, ◌/◌, ◌%◌, ◌<◌, List, [], ◌∷◌, ◌++◌, length, slice_get, Some, None}
+use Rattle.std.proofs.Common.{◌≡◌, ◌≢◌, ◌⊎◌, ℕ, ◌+◌, ◌-◌, ◌/◌, ◌%◌, ◌<◌, ◌≤◌, List, [], ◌∷◌, ◌++◌, length, slice_get, slice_index, Some, None}
 use Rattle.cell_layout.specs.declared.Kind.TheVariants as kind
 use Rattle.cell_layout.specs.Pointers.{kind_at}
 use Rattle.cell_layout.specs.Slots.{slot_at, child_count}
@@ -25,6 +25,9 @@ module _ (w : List ℕ) (g : Ledger) where
     pub home : Home w g q s.cell s.field
     pub entered : s.entered ≢ 0 → HasPath g s.entered q
     pub reads : Reads (reading w) s.entered m s.at
+    pub forward : s.at ≡ s.entered + length m
+    pub offset : length m ≤ s.at % 32
+    pub bytes : (i : ℕ) → i < length m → cell_byte w (s.at / 32) (s.at % 32 - length m + i) ≡ slice_index m i
     pub passed : path ≡ q ++ m
     pub at_path : s.at ≢ 0 → HasPath g s.at path
 
