@@ -63,6 +63,15 @@ pub over_children : (w : List ℕ) (g : Ledger) (y n b : ℕ) → IsNode n → O
 over_children w g y n b is (itself e) = ap (λ (x : ℕ). child_of w x b (kind_at x)) e ∙ own_children w n b is
 over_children w g y n b is (by_prefix k e) = ap (λ (x : Option Kind). child_of w y b x) k ∙ ap (λ (x : ℕ). node_child w x b (kind_at x)) e
 
+-- a chain pointer before the last byte of its cell reads this byte and is the next pointer
+pub next_reads : (w : List ℕ) (p b : ℕ) → kind_at p ≡ Some kind.Chain → cell_byte w (p / 32) (p % 32) ≡ b → p % 32 ≢ 27 → Reads (reading w) p (b ∷ []) (p + 1)
+next_reads w p b k e l = (
+  (is_kind p (Some kind.Chain) k).0,
+  ap (λ (x : Option Kind). record_of w p x) k,
+  (λ a ne. ap (λ (x : Option Kind). child_of w p a x) k ∙ cond-false (cell_byte w (p / 32) (p % 32) == a) (cond (p % 32 == 27) (field w (p / 32) 7) (p + 1)) 0 (ne_eqb (cell_byte w (p / 32) (p % 32)) a (λ z. ne (sym z ∙ e)))),
+  ap (λ (x : Option Kind). child_of w p b x) k ∙ (cond-true (cell_byte w (p / 32) (p % 32) == b) (cond (p % 32 == 27) (field w (p / 32) 7) (p + 1)) 0 (eq-eqb (cell_byte w (p / 32) (p % 32)) b e) ∙ cond-false (p % 32 == 27) (field w (p / 32) 7) (p + 1) (ne_eqb (p % 32) 27 l)),
+)
+
 module _ (w : List ℕ) (g : Ledger) (cells : ℕ) (ok : IsImage w g cells) where
   -- a walk stands here, after the bytes of the path
   pub record Here (q m path : List ℕ) (s : Stand) : Type 0 where
@@ -132,14 +141,6 @@ module _ (w : List ℕ) (g : Ledger) (cells : ℕ) (ok : IsImage w g cells) wher
             let same : i.1 ≡ path ++ b ∷ [] = path_once g (field w (s.at / 32) 7) i.1 (path ++ b ∷ []) cell.tail there in
             to_field (s.at / 32) 7 (tail record { before = path; byte = b; parent = s.at; whole = refl; reached = reached; kind = k; here = refl; end = l; is_byte = e; from = i.0; own = subst (λ (x : List ℕ). owner g (s.at / 32) ≡ Some (ChainCell i.0 x)) same i.2; is_place = refl }) goes
 
-        one_byte : cell_byte w (s.at / 32) (s.at % 32) ≡ b → s.at % 32 ≢ 27 → Reads (reading w) s.at (b ∷ []) (s.at + 1)
-        one_byte e l = (
-          (is_kind s.at (Some kind.Chain) k).0,
-          ap (λ (x : Option Kind). record_of w s.at x) k,
-          (λ a ne. own_children w s.at a is_node ∙ (chain_led a ∙ cond-false (cell_byte w (s.at / 32) (s.at % 32) == a) (cond (s.at % 32 == 27) (field w (s.at / 32) 7) (s.at + 1)) 0 (ne_eqb (cell_byte w (s.at / 32) (s.at % 32)) a (λ z. ne (sym z ∙ e))))),
-          own_children w s.at b is_node ∙ (byte_led e ∙ cond-false (s.at % 32 == 27) (field w (s.at / 32) 7) (s.at + 1) (ne_eqb (s.at % 32) 27 l)),
-        )
-
         more_bytes : cell_byte w (s.at / 32) (s.at % 32) ≡ b → s.at % 32 ≢ 27 → (i : ℕ) → i < length (m ++ b ∷ []) → cell_byte w ((s.at + 1) / 32) ((s.at + 1) % 32 - length (m ++ b ∷ []) + i) ≡ slice_index (m ++ b ∷ []) i
         more_bytes e l i less = let place = next_byte s.at k l in let more = length-append m (b ∷ []) in let back : (s.at + 1) % 32 - length (m ++ b ∷ []) + i ≡ s.at % 32 - length m + i = omega (arith, more, place.2) in
             ap₂ (λ (x y : ℕ). cell_byte w x y) place.1 back ∙ ⊎_elim
@@ -151,7 +152,7 @@ module _ (w : List ℕ) (g : Ledger) (cells : ℕ) (ok : IsImage w g cells) wher
           q,
           m ++ b ∷ [],
           record {
-            stands = record { held = h.held; home = h.home; entered = h.entered; reads = reads_on (reading w) m (b ∷ []) s.entered s.at (s.at + 1) h.reads (one_byte e l); forward = omega (arith, h.forward, more); offset = omega (arith, h.offset, more, place.2); bytes = more_bytes e l; passed = ap (λ (x : List ℕ). x ++ b ∷ []) h.passed ∙ append_assoc q m (b ∷ []); at_path = λ ne. (arrives (s.at + 1) goes ne).0 };
+            stands = record { held = h.held; home = h.home; entered = h.entered; reads = reads_on (reading w) m (b ∷ []) s.entered s.at (s.at + 1) h.reads (next_reads w s.at b k e l); forward = omega (arith, h.forward, more); offset = omega (arith, h.offset, more, place.2); bytes = more_bytes e l; passed = ap (λ (x : List ℕ). x ++ b ∷ []) h.passed ∙ append_assoc q m (b ∷ []); at_path = λ ne. (arrives (s.at + 1) goes ne).0 };
             walks = λ ne. (arrives (s.at + 1) goes ne).1;
             plain = inr (next_byte s.at k l).0;
           },

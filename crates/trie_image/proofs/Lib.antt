@@ -21,3 +21,8 @@ pub mod StoreShape
 pub mod Homes
 pub mod Leaves
 pub mod Exits
+pub mod CellWords
+pub mod Chains
+pub mod NewPointers
+pub mod Splits
+pub mod Published
