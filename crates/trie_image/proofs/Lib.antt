@@ -18,3 +18,7 @@ pub mod BodyLemmas
 pub mod Costs
 pub mod BodyLengths
 pub mod StoreShape
+pub mod CellWords
+pub mod NewChains
+pub mod NewCells
+pub mod NewWide
