@@ -22,7 +22,7 @@ length_chain f zero bytes end = refl
 length_chain f (suc n) bytes end = let rest : List ℕ = chain_from (f + 1) n (drop (length bytes - 28 * n) bytes) end in let cell : List ℕ = chain_cell (padded (take (length bytes - 28 * n) bytes)) (next_cell f n end) in
     let four : length cell ≡ 4 = refl in omega (arith, length-append cell rest, length_chain (f + 1) n (drop (length bytes - 28 * n) bytes) end, four)
 
-length_eights : (f : ℕ → ℕ) (xs : List ℕ) → length (flat_map (λ i. eight f (8 * i)) xs) ≡ 4 * length xs
+pub length_eights : (f : ℕ → ℕ) (xs : List ℕ) → length (flat_map (λ i. eight f (8 * i)) xs) ≡ 4 * length xs
 length_eights f [] = refl
 length_eights f (x ∷ xs) = let four : length (eight f (8 * x)) ≡ 4 = refl in omega (arith, length-append (eight f (8 * x)) (flat_map (λ i. eight f (8 * i)) xs), length_eights f xs, four)
 

@@ -18,10 +18,13 @@ pub mod BodyLemmas
 pub mod Costs
 pub mod BodyLengths
 pub mod StoreShape
+pub mod CellWords
+pub mod NewChains
+pub mod NewCells
+pub mod NewWide
 pub mod Homes
 pub mod Leaves
 pub mod Exits
-pub mod CellWords
 pub mod Chains
 pub mod NewPointers
 pub mod Splits
