@@ -1,10 +1,10 @@
 -- The chain cells of a put read their bytes and are then their end.
-use Rattle.std.proofs.Common.{◌≡◌, ◌≢◌, ℕ, zero, suc, ◌+◌, ◌-◌, ◌*◌, ◌/◌, ◌%◌, ◌^◌, ◌<◌, ◌≤◌, ◌==◌, if◌then◌else◌, true, false, List, [], ◌∷◌, ◌++◌, length, take, drop, slice_index, refl, sym, ap, ◌∙◌, subst, arith, eq-eqb, ne_eqb}
+use Rattle.std.proofs.Common.{◌≡◌, ◌≢◌, ℕ, zero, suc, ◌+◌, ◌-◌, ◌*◌, ◌/◌, ◌%◌, ◌^◌, ◌<◌, ◌≤◌, ◌==◌, if◌then◌else◌, true, List, [], ◌∷◌, length, take, drop, slice_index, refl, sym, ap, ◌∙◌, subst, arith, eq-eqb, ne_eqb}
 use Rattle.std.proofs.lemmas.Bool.{cond-true, cond-false}
 use Rattle.std.proofs.lemmas.List.{length-take-le, length-drop, take-append-drop}
 use Rattle.cell_layout.specs.Words.{half_of, byte_of}
 use Rattle.trie_image.specs.Reading.{Reads}
-use Rattle.trie_image.specs.Image.{field, cell_byte, reading}
+use Rattle.trie_image.specs.Image.{field, reading}
 use Rattle.trie_image.specs.Body.{chain_cell, padded, chain_cells, chain_from, chain_entry, next_cell}
 use Rattle.trie_image.proofs.Betters.{reads_on, cell_reads}
 use Rattle.trie_image.proofs.CellWords.{Stands, stands_front, stands_back, AreBytes, bytes_taken, bytes_dropped, byte_of_chain_cell, tail_of_chain_cell, bytes_padded, padded_byte}
@@ -35,7 +35,7 @@ module _ (w : List ℕ) where
       let cell : List ℕ = chain_cell (padded part) (next_cell f n end) in
       let front : length part ≡ k = length-take-le k bytes (omega arith) in let left : length after ≡ 28 * n = omega (arith, length-drop k bytes) in
       let first : Reads (reading w) (32 * f + (28 * suc n - length bytes)) part (next_cell f n end) = part_reads f part (next_cell f n end) (32 * f + (28 * suc n - length bytes)) (stands_front w f cell (chain_from (f + 1) n after end) h)
-              (omega (arith, front)) (omega (arith, front)) (bytes_taken k bytes small) low (omega arith) (omega (arith, front)) in
+      (omega (arith, front)) (omega (arith, front)) (bytes_taken k bytes small) low (omega arith) (omega (arith, front)) in
       let others : Reads (reading w) (enters n (f + 1) (length after) end) after end = chain_reads n (f + 1) after end (stands_back w f 1 cell (chain_from (f + 1) n after end) refl h) (omega arith) (omega arith) (omega (arith, left)) (omega (arith, left)) (bytes_dropped k bytes small) in
       subst (λ (x : List ℕ). Reads (reading w) (32 * f + (28 * suc n - length bytes)) x end) (take-append-drop k bytes)
       (reads_on (reading w) part after (32 * f + (28 * suc n - length bytes)) (next_cell f n end) end first (subst (λ (x : ℕ). Reads (reading w) x after end) (sym (next_enters n f (length after) end left)) others))

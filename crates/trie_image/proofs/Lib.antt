@@ -29,3 +29,4 @@ pub mod Chains
 pub mod NewPointers
 pub mod Splits
 pub mod Published
+pub mod Wides

@@ -1,12 +1,11 @@
 -- The kinds of the pointers that a put makes, and what a prefix cell's words say.
-use Rattle.std.proofs.Common.{◌≡◌, ◌≢◌, ℕ, ◌+◌, ◌-◌, ◌*◌, ◌/◌, ◌%◌, ◌^◌, ◌<◌, ◌≤◌, false, true, List, Option, Some, refl, sym, ap, ◌∙◌, arith, ne_eqb, le-leb}
+use Rattle.std.proofs.Common.{◌≡◌, ◌≢◌, ℕ, ◌+◌, ◌*◌, ◌%◌, ◌^◌, ◌<◌, ◌≤◌, false, true, List, Option, Some, refl, ap, ◌∙◌, arith, ne_eqb, le-leb}
 use Rattle.std.proofs.lemmas.Bool.{lt-leb}
 use Rattle.cell_layout.specs.declared.Kind.{Kind}
 use Rattle.cell_layout.specs.declared.Kind.TheVariants as kind
 use Rattle.cell_layout.specs.Words.{half_of}
 use Rattle.cell_layout.specs.Pointers.{kind_at, kind_at_offset, record_cell}
-use Rattle.trie_image.specs.Reading.{Reads}
-use Rattle.trie_image.specs.Image.{field, child_of, content_record, record_of, reading}
+use Rattle.trie_image.specs.Image.{field, child_of, content_record, record_of}
 use Rattle.trie_image.specs.Body.{prefix_words}
 use Rattle.trie_image.specs.Stores.{content_of}
 use Rattle.trie_image.proofs.CellWords.{Stands, pair_low, pair_high}

@@ -1,23 +1,28 @@
 -- The pointer that a put publishes is better than the one in its place, by the case that the walk met. All is said of the
 -- words after the publishing store.
-use Rattle.std.proofs.Common.{◌≡◌, ◌≢◌, ◌⊎◌, ℕ, zero, suc, ◌+◌, ◌-◌, ◌*◌, ◌/◌, ◌%◌, ◌^◌, ◌<◌, ◌≤◌, ◌==◌, nat_lt, true, false, cond, List, [], ◌∷◌, ◌++◌, length, slice_index, Option, Some, None, refl, sym, ap, ap₂, ◌∙◌, subst, inl, inr, ⊎_elim, arith, eq-eqb, ne_eqb, append-nil, lt-ltb}
-use Rattle.std.proofs.lemmas.Bool.{cases_eq, cond-true, cond-false}
+use Rattle.std.proofs.Common.{◌≡◌, ◌≢◌, ℕ, suc, ◌+◌, ◌-◌, ◌*◌, ◌/◌, ◌%◌, ◌^◌, ◌<◌, ◌≤◌, ◌==◌, nat_lt, Bool, true, false, cond, List, [], ◌∷◌, length, slice_index, Option, Some, None, refl, sym, ap, ap₂, ◌∙◌, subst, ⊎_elim, arith, eq-eqb, ne_eqb, lt-ltb, ltb-true}
+use Rattle.std.proofs.lemmas.Bool.{cases_eq, cases_Bool, ltb-false, cond-true, cond-false}
 use Rattle.cell_layout.specs.declared.Kind.{Kind}
 use Rattle.cell_layout.specs.declared.Kind.TheVariants as kind
 use Rattle.cell_layout.specs.Words.{half_of, byte_of}
-use Rattle.cell_layout.specs.Pointers.{kind_at, record_cell}
+use Rattle.cell_layout.specs.Pointers.{kind_at}
 use Rattle.cell_layout.proofs.PointerKinds.{is_kind, is_chain, next_byte}
 use Rattle.trie_image.specs.declared.exit.Stand.{Stand}
-use Rattle.trie_image.specs.Reading.{Reading, sees_from, Reads, Better}
-use Rattle.trie_image.specs.Image.{word_of, field, cell_byte, chain_child, node_child, child_of, content_record, record_of, reading}
-use Rattle.trie_image.specs.Body.{chain_cell, passed_bytes, passed_words, over_passed, chain_rest, split_words, prefix_words}
+use Rattle.trie_image.specs.Reading.{sees_from, Reads, Better}
+use Rattle.trie_image.specs.Image.{word_of, field, cell_byte, slot_child, mid_child, split_child, node_child, child_of, content_record, record_of, reading}
+use Rattle.trie_image.specs.Body.{chain_cell, passed_bytes, passed_words, over_passed, chain_rest, split_words, prefix_words, seven, has_leaf, leaf_field, wide_words}
 use Rattle.trie_image.specs.Stores.{content_of}
-use Rattle.trie_image.proofs.Readings.{sees_none, sees_there}
-use Rattle.trie_image.proofs.Betters.{reads_on, under_bytes, better_chain, cell_reads}
+use Rattle.trie_image.proofs.Betters.{reads_on, better_chain, cell_reads}
 use Rattle.trie_image.proofs.Nodes.{better_node, better_record}
-use Rattle.trie_image.proofs.CellWords.{Stands, stands_front, stands_back, byte_of_chain_cell, tail_of_chain_cell, bytes_passed, passed_byte}
+use Rattle.trie_image.proofs.CellWords.{Stands, byte_of_chain_cell, tail_of_chain_cell, bytes_passed, passed_byte}
 use Rattle.trie_image.proofs.NewPointers.{offset_kind, content_kind, content_there, content_is, content_record_is, content_leaf, prefix_content, prefix_node}
 use Rattle.trie_image.proofs.Exits.{IsNode, own_children, next_reads}
+use Rattle.trie_image.specs.Same.{SameWords}
+use Rattle.trie_image.proofs.Kept.{same_field}
+use Rattle.trie_image.proofs.Wides.{has_new, has_old, split_there, split_absent}
+use Rattle.std.proofs.Math.Nat.{mod-lt}
+use Rattle.cell_layout.specs.Slots.{slot_at}
+use Rattle.cell_layout.proofs.Added.{slot_is, slot_small}
 use Rattle.trie_image.proofs.Splits.{sparse_kind, split_old, split_new, split_other}
 
 module _ (w : List ℕ) (used : ℕ) (small : used < 2 ^ 31) where
@@ -128,3 +133,61 @@ module _ (w0 w : List ℕ) (s : Stand) (m : List ℕ) (forward : s.at ≡ s.ente
 
     pub passed_reads : Reads (reading w) (over_passed s x o) m (32 * x + o)
     passed_reads = ⊎_elim nothing_passed some_passed (cases_eq s.at s.entered)
+
+-- the split node of seven children in place of a full sparse node
+module _ (w0 w : List ℕ) (used : ℕ) (small : used < 2 ^ 31) (at b entry x : ℕ) (k : kind_at at ≡ Some kind.Sparse) (same : SameWords w0 w (at / 32)) (h : Stands w x (wide_words w0 (at / 32) b entry x)) (low : 1 ≤ x) (room : x + 64 < 2 ^ 26) (byte : b < 256) (fits : (c : ℕ) → leaf_field w0 (at / 32) b entry c < 2 ^ 32) where
+  word : ℕ
+  word = word_of w0 (at / 32) 3
+
+  -- the child in the old node
+  was : ℕ → ℕ
+  was a = slot_child w0 (at / 32) (slot_at word a)
+
+  old_child : (a : ℕ) → child_of w at a (kind_at at) ≡ was a
+  unfolding was word
+  old_child a = ap (λ (x : Option Kind). child_of w at a x) k ∙ (ap (λ (y : ℕ). slot_child w (at / 32) (slot_at y a)) (same 3 (omega arith)) ∙ by (slot_at (word_of w0 (at / 32) 3) a) refl)
+    where
+      by : (o : Option ℕ) → slot_at (word_of w0 (at / 32) 3) a ≡ o → slot_child w (at / 32) o ≡ slot_child w0 (at / 32) o
+      by None e = refl
+      by (Some s) e = let l = slot_small (word_of w0 (at / 32) 3) a s e in same_field w0 w (at / 32) s same (omega arith)
+
+  new_child : (a : ℕ) → child_of w (32 * x + 28) a (kind_at (32 * x + 28)) ≡ split_child w x a
+  new_child a = let cell : (32 * x + 28) / 32 ≡ x = omega arith in ap (λ (y : Option Kind). child_of w (32 * x + 28) a y) (offset_kind (32 * x + 28) x 28 refl low (omega arith) (omega arith)) ∙ ap (λ (c : ℕ). split_child w c a) cell
+
+  other_field : (a : ℕ) → a ≢ b → leaf_field w0 (at / 32) b entry a ≡ was a
+  unfolding leaf_field was word
+  other_field a ne = cond-false (a == b) entry (slot_child w0 (at / 32) (slot_at (word_of w0 (at / 32) 3) a)) (ne_eqb a b ne)
+
+  new_field : leaf_field w0 (at / 32) b entry b ≡ entry
+  unfolding leaf_field
+  new_field = cond-true (b == b) entry (slot_child w0 (at / 32) (slot_at (word_of w0 (at / 32) 3) b)) (eq-eqb b b refl)
+
+  -- a byte that has no leaf cell, or is no byte, has no child in the old node
+  old_none : (a : ℕ) → ((s : ℕ) → slot_at word a ≡ Some s → ⊥) → was a ≡ 0
+  unfolding was
+  old_none a none = by (slot_at word a) refl
+    where
+      by : (o : Option ℕ) → slot_at word a ≡ o → slot_child w0 (at / 32) o ≡ 0
+      by None e = refl
+      by (Some s) e = absurd (none s e)
+
+  others : (a : ℕ) → a ≢ b → child_of w (32 * x + 28) a (kind_at (32 * x + 28)) ≡ child_of w at a (kind_at at)
+  unfolding word
+  others a ne = new_child a ∙ (⊎_elim
+      (λ (t : nat_lt a 256 ≡ true). by (ltb-true a 256 t) (has_leaf (seven (word_of w0 (at / 32) 3) b) (a / 8)) refl)
+      (λ (t : nat_lt a 256 ≡ false). let l = ltb-false a 256 t in cond-false (nat_lt a 256) (mid_child w (field w x (a / 64)) a) 0 t ∙ sym (old_none a (λ s e. let i = slot_is (word_of w0 (at / 32) 3) a s e in let d : byte_of (word_of w0 (at / 32) 3) s < 256 = mod-lt _ (omega arith) in omega (arith, i.2))))
+      (cases_Bool (nat_lt a 256)) ∙ sym (old_child a))
+    where
+      by : a < 256 → (t : Bool) → has_leaf (seven (word_of w0 (at / 32) 3) b) (a / 8) ≡ t → split_child w x a ≡ was a
+      by l true e = split_there w0 w (at / 32) b entry x (seven (word_of w0 (at / 32) 3) b) h room fits a l e ∙ other_field a ne
+      by l false e = split_absent w0 w (at / 32) b entry x (seven (word_of w0 (at / 32) 3) b) h room fits a l e ∙ sym (old_none a (λ s is. let t = has_old (word_of w0 (at / 32) 3) b a s is in let d : false ≡ true = sym e ∙ t in absurd (cc)))
+
+  pub better_wide : (rest : List ℕ) → slot_at (word_of w0 (at / 32) 3) b ≡ None → Reads (reading w) entry rest (content_of used) → Better (reading w) at (32 * x + 28) (b ∷ rest) used
+  unfolding was word
+  better_wide rest absent reads =
+      let is : child_of w (32 * x + 28) b (kind_at (32 * x + 28)) ≡ entry = new_child b ∙ (split_there w0 w (at / 32) b entry x (seven (word_of w0 (at / 32) 3) b) h room fits b byte (has_new (word_of w0 (at / 32) 3) b) ∙ new_field) in
+      let none : child_of w at b (kind_at at) ≡ 0 = old_child b ∙ ap (λ (o : Option ℕ). slot_child w0 (at / 32) o) absent in
+      better_node (reading w) b rest at (32 * x + 28) used (is_kind at (Some kind.Sparse) k).0 (λ z. omega arith)
+      (ap (λ (y : Option Kind). record_of w (32 * x + 28) y) (offset_kind (32 * x + 28) x 28 refl low (omega arith) (omega arith)) ∙ sym (ap (λ (y : Option Kind). record_of w at y) k))
+      (λ a l ne. ap (λ (c : ℕ). sees_from (reading w) c l) (others a ne))
+      (subst (λ (c : ℕ). Better (reading w) c (child_of w (32 * x + 28) b (kind_at (32 * x + 28))) rest used) (sym none) (subst (λ (c : ℕ). Better (reading w) 0 c rest used) (sym is) (better_entry w used small entry rest reads)))

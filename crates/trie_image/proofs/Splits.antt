@@ -1,5 +1,5 @@
 -- The children of a new sparse cell of two bytes.
-use Rattle.std.proofs.Common.{◌≡◌, ◌≢◌, ℕ, ◌+◌, ◌*◌, ◌/◌, ◌%◌, ◌^◌, ◌<◌, ◌≤◌, ◌==◌, nat_le, Bool, true, false, cond, List, [], ◌∷◌, length, take, Option, Some, None, refl, sym, ap, ap₂, ◌∙◌, arith, eq-eqb, ne_eqb, leb-true, leb-false}
+use Rattle.std.proofs.Common.{◌≡◌, ◌≢◌, ℕ, ◌+◌, ◌*◌, ◌/◌, ◌%◌, ◌^◌, ◌<◌, ◌≤◌, ◌==◌, nat_le, true, false, cond, List, [], ◌∷◌, length, take, Option, Some, None, refl, sym, ap, ap₂, ◌∙◌, arith, eq-eqb, ne_eqb}
 use Rattle.std.proofs.lemmas.Bool.{cond_both, cond-true, cond-false}
 use Rattle.std.specs.List.{position_from}
 use Rattle.cell_layout.specs.declared.Kind.{Kind}
@@ -7,7 +7,7 @@ use Rattle.cell_layout.specs.declared.Kind.TheVariants as kind
 use Rattle.cell_layout.specs.Words.{half_of, byte_of}
 use Rattle.cell_layout.specs.Pointers.{kind_at}
 use Rattle.cell_layout.specs.Slots.{digits, slots_of, slot_bytes, slot_at, child_count, child_bytes}
-use Rattle.trie_image.specs.Image.{word_of, field, slot_child, child_of}
+use Rattle.trie_image.specs.Image.{word_of, slot_child, child_of}
 use Rattle.trie_image.specs.Body.{two_words, split_words}
 use Rattle.trie_image.proofs.CellWords.{Stands, pair_low, pair_high}
 use Rattle.trie_image.proofs.NewPointers.{offset_kind}
