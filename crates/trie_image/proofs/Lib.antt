@@ -30,3 +30,5 @@ pub mod NewPointers
 pub mod Splits
 pub mod Published
 pub mod Wides
+pub mod Stored
+pub mod Lives
