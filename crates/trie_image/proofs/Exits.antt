@@ -86,7 +86,7 @@ module _ (w : List ℕ) (g : Ledger) (cells : ℕ) (ok : IsImage w g cells) wher
     pub stands : StandsAt w g q m path s
     pub walks : s.at ≢ 0 → Walks (reading w) (root_of w) path s.at
     pub plain : (m ≡ []) ⊎ (kind_at s.at ≡ Some kind.Chain)
-    pub outside : kind_at s.at ≡ Some kind.Content → NoPrefix s.cell
+    pub outside : m ≡ [] → NoPrefix s.cell
 
   at_home : (q m path : List ℕ) (s : Stand) → StandsAt w g q m path s → m ≡ [] → StandsAt w g path [] path s
   at_home q m path s h e = let same : path ≡ q = h.passed ∙ (ap (λ (x : List ℕ). q ++ x) e ∙ append-nil q) in record {
@@ -165,7 +165,7 @@ module _ (w : List ℕ) (g : Ledger) (cells : ℕ) (ok : IsImage w g cells) wher
             stands = record { held = h.held; home = h.home; entered = h.entered; reads = reads_on (reading w) m (b ∷ []) s.entered s.at (s.at + 1) h.reads (next_reads w s.at b k e l); forward = omega (arith, h.forward, more); offset = omega (arith, h.offset, more, place.2); bytes = more_bytes e l; passed = ap (λ (x : List ℕ). x ++ b ∷ []) h.passed ∙ append_assoc q m (b ∷ []); at_path = λ ne. (arrives (s.at + 1) goes ne).0 };
             walks = λ ne. (arrives (s.at + 1) goes ne).1;
             plain = inr (next_byte s.at k l).0;
-            outside = λ c. let both : Some kind.Content ≡ Some kind.Chain = sym c ∙ (next_byte s.at k l).0 in absurd (cc);
+            outside = λ e. absurd (let none : length (m ++ b ∷ []) ≡ 0 = ap (λ (x : List ℕ). length x) e in omega (arith, none, length-append m (b ∷ [])));
           },
         )
 
@@ -236,9 +236,16 @@ module _ (w : List ℕ) (g : Ledger) (cells : ℕ) (ok : IsImage w g cells) wher
       byte_steps (Some kind.Sparse) e = subst (λ (k : Option Kind). Steps (node_step w b s k)) e (alone (is_kind s.at (Some kind.Sparse) e).0 (inr (inl e)))
       byte_steps (Some kind.Wide) e = subst (λ (k : Option Kind). Steps (node_step w b s k)) e (alone (is_kind s.at (Some kind.Wide) e).0 (inr (inr e)))
       byte_steps (Some kind.Prefix) e = under e
-      byte_steps (Some kind.Content) e = λ key rest whole so_far. record { path = path; byte = b; rest = rest; whole = whole; so_far = so_far; stands = plainly q m path s here.stands here.plain (λ z. let both : Some kind.Chain ≡ Some kind.Content = sym z ∙ e in cc); is_content = e; no_prefix = here.outside e }
+      byte_steps (Some kind.Content) e = λ key rest whole so_far. record { path = path; byte = b; rest = rest; whole = whole; so_far = so_far; stands = plainly q m path s here.stands here.plain (λ z. let both : Some kind.Chain ≡ Some kind.Content = sym z ∙ e in cc); is_content = e; no_prefix = here.outside (⊎_elim (λ z. z) (λ z. let both : Some kind.Chain ≡ Some kind.Content = sym z ∙ e in absurd (cc)) here.plain) }
       byte_steps (Some kind.Nothing) e = λ key rest whole so_far. record { path = path; rest = b ∷ rest; whole = whole; so_far = so_far; stands = plainly q m path s here.stands here.plain (λ z. let both : Some kind.Chain ≡ Some kind.Nothing = sym z ∙ e in cc); is_nothing = is_kind s.at (Some kind.Nothing) e }
       byte_steps None e = absurd (no_kind_of g s.at path e (here.stands.at_path (is_kind s.at None e).0))
+
+  empty : (l : List ℕ) → length l ≡ 0 → l ≡ []
+  empty [] e = refl
+  empty (x ∷ l) e = absurd (omega arith)
+
+  bare : (path : List ℕ) (s : Stand) (q m : List ℕ) → Here q m path s → s.at ≡ s.entered → NoPrefix s.cell
+  bare path s q m here e = here.outside (empty m (omega (arith, here.stands.forward, e)))
 
   module _ (key : List ℕ) where
     -- at the key's end
@@ -249,9 +256,9 @@ module _ (w : List ℕ) (g : Ledger) (cells : ℕ) (ok : IsImage w g cells) wher
       stands = record { held = refl; home = content record { prefix = s.at; walks = here.walks ne; path = at; kind = e; here = refl; own = own } refl; entered = λ z. cell.content; reads = refl; forward = add_zero _; offset = omega arith; bytes = λ i l. absurd (omega arith); passed = sym (append-nil key); at_path = λ z. cell.content };
       is_content = cell.is_content;
     }
-    ends s q m taken here so_far (Some kind.Chain) e = record { home_path = q; inside = m; stands = here.stands; is_node = inl e }
-    ends s q m taken here so_far (Some kind.Sparse) e = record { home_path = q; inside = m; stands = here.stands; is_node = inr (inl e) }
-    ends s q m taken here so_far (Some kind.Wide) e = record { home_path = q; inside = m; stands = here.stands; is_node = inr (inr e) }
+    ends s q m taken here so_far (Some kind.Chain) e = record { home_path = q; inside = m; stands = here.stands; is_node = inl e; bare = bare key s q m here }
+    ends s q m taken here so_far (Some kind.Sparse) e = record { home_path = q; inside = m; stands = here.stands; is_node = inr (inl e); bare = bare key s q m here }
+    ends s q m taken here so_far (Some kind.Wide) e = record { home_path = q; inside = m; stands = here.stands; is_node = inr (inr e); bare = bare key s q m here }
     ends s q m taken here so_far None e = absurd (no_kind_of g s.at key e (here.stands.at_path (is_kind s.at None e).0))
 
     goes : (path : List ℕ) (taken b : ℕ) (k : List ℕ) → path ++ b ∷ k ≡ key → taken ≡ length path → ((s : Stand) (q m : List ℕ) → Here q m (path ++ b ∷ []) s → Leaves w g key (exit_at w k s (taken + 1))) → (st : Step) → Steps path taken b st → Leaves w g key (exit_from st (λ next. exit_at w k next (taken + 1)) taken)

@@ -65,6 +65,7 @@ module _ (w : List ℕ) (g : Ledger) where
     pub inside : List ℕ
     pub stands : StandsAt home_path inside key s
     pub is_node : (kind_at s.at ≡ Some kind.Chain) ⊎ ((kind_at s.at ≡ Some kind.Sparse) ⊎ (kind_at s.at ≡ Some kind.Wide))
+    pub bare : s.at ≡ s.entered → (r : List ℕ) → owner g s.cell ≡ Some (PrefixCell r) → ⊥
 
   -- a sparse node with room and without the byte
   pub record MetSparse (key : List ℕ) (s : Stand) (taken : ℕ) : Type 0 where

@@ -1,5 +1,5 @@
 -- The root sees the new record: the walk to the changed entry is as before, and from there the new record is seen.
-use Rattle.std.proofs.Common.{◌≡◌, ◌≢◌, ◌⊎◌, ℕ, List, [], ◌∷◌, ◌++◌, Some, refl, sym, ap, ◌∙◌, subst, ⊎_elim, append_assoc}
+use Rattle.std.proofs.Common.{◌≡◌, ◌≢◌, ℕ, List, [], ◌∷◌, ◌++◌, Some, sym, ap, ◌∙◌, subst, ⊎_elim, append_assoc}
 use Rattle.trie_image.specs.Reading.{Reading, sees, sees_from, Closed, Better, Changes}
 use Rattle.trie_image.proofs.Readings.{sees_there}
 use Rattle.trie_image.proofs.Live.{Walks}

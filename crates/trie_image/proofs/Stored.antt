@@ -1,5 +1,5 @@
 -- The words after the stores into new cells.
-use Rattle.std.proofs.Common.{◌≡◌, ◌≢◌, ◌⊎◌, ℕ, zero, suc, ◌+◌, ◌*◌, ◌<◌, ◌≤◌, List, [], ◌∷◌, ◌++◌, length, set, slice_index, refl, sym, ap, ◌∙◌, subst, arith, length-set, get_or-set_other, get_or-set_same}
+use Rattle.std.proofs.Common.{◌≡◌, ℕ, zero, suc, ◌+◌, ◌*◌, ◌<◌, ◌≤◌, List, [], ◌∷◌, ◌++◌, length, set, slice_index, refl, ap, ◌∙◌, arith, length-set, get_or-set_other, get_or-set_same}
 use Rattle.trie_image.specs.declared.WordStore.{WordStore}
 use Rattle.trie_image.specs.Stores.{prepares}
 use Rattle.trie_image.specs.After.{after}
