@@ -54,6 +54,9 @@ walks_on r (d ∷ bs) a x b (n, walk) ne = (n, walks_on r bs (r.child a d) x b w
 abbrev pub IsNode : ℕ → Type 0
 IsNode p = (kind_at p ≡ Some kind.Chain) ⊎ ((kind_at p ≡ Some kind.Sparse) ⊎ (kind_at p ≡ Some kind.Wide))
 
+pub node_nonzero : (p : ℕ) → IsNode p → p ≢ 0
+node_nonzero p is = ⊎_elim (λ (e : kind_at p ≡ Some kind.Chain). (is_kind p (Some kind.Chain) e).0) (λ t. ⊎_elim (λ (e : kind_at p ≡ Some kind.Sparse). (is_kind p (Some kind.Sparse) e).0) (λ (e : kind_at p ≡ Some kind.Wide). (is_kind p (Some kind.Wide) e).0) t) is
+
 -- its children are those of a prefix cell over it
 pub own_children : (w : List ℕ) (n b : ℕ) → IsNode n → child_of w n b (kind_at n) ≡ node_child w n b (kind_at n)
 own_children w n b is = ⊎_elim (λ (e : kind_at n ≡ Some kind.Chain). subst (λ (k : Option Kind). child_of w n b k ≡ node_child w n b k) (sym e) refl) (λ t. ⊎_elim

@@ -32,3 +32,5 @@ pub mod Published
 pub mod Wides
 pub mod Stored
 pub mod Lives
+pub mod Turned
+pub mod Seen
