@@ -11,6 +11,10 @@ pub mod Relinked
 pub mod Grown
 pub mod Live
 pub mod Tails
+pub mod CellWords
+pub mod NewChains
+pub mod NewCells
+pub mod NewWide
 pub mod Opening
 pub mod Entries
 pub mod Nodes
@@ -18,7 +22,6 @@ pub mod BodyLemmas
 pub mod Costs
 pub mod BodyLengths
 pub mod StoreShape
-pub mod CellWords
-pub mod NewChains
-pub mod NewCells
-pub mod NewWide
+pub mod Homes
+pub mod Leaves
+pub mod Exits
