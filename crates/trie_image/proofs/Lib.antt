@@ -15,6 +15,9 @@ pub mod CellWords
 pub mod NewChains
 pub mod NewCells
 pub mod NewWide
+pub mod NewOwners
+pub mod NewFurther
+pub mod NewCases
 pub mod Opening
 pub mod Entries
 pub mod Nodes
