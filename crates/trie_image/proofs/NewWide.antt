@@ -92,7 +92,7 @@ eight_field w c f k (suc (suc (suc (suc (suc (suc zero)))))) h l small = ap (λ 
 eight_field w c f k (suc (suc (suc (suc (suc (suc (suc zero))))))) h l small = ap (λ (x : ℕ). half_of x true) (h 3 (omega arith)) ∙ pair_high (f (k + 6)) (f (k + 7)) (small 6 (omega arith))
 eight_field w c f k (suc (suc (suc (suc (suc (suc (suc (suc n)))))))) h l small = absurd (omega arith)
 
-one_of : (w : List ℕ) (c : ℕ) (f : ℕ → ℕ) (xs : List ℕ) (j i : ℕ) → Stands w c (flat_map (λ i. eight f (8 * i)) xs) → slice_get xs j ≡ Some i → Stands w (c + j) (eight f (8 * i))
+pub one_of : (w : List ℕ) (c : ℕ) (f : ℕ → ℕ) (xs : List ℕ) (j i : ℕ) → Stands w c (flat_map (λ i. eight f (8 * i)) xs) → slice_get xs j ≡ Some i → Stands w (c + j) (eight f (8 * i))
 one_of w c f [] j i h e = absurd (cc)
 one_of w c f (x ∷ xs) zero i h e = let is : x ≡ i = cc in let z : c + 0 ≡ c = omega arith in subst (λ (y : ℕ). Stands w (c + 0) (eight f (8 * y))) is (subst (λ (y : ℕ). Stands w y (eight f (8 * x))) (sym z) (stands_front w c (eight f (8 * x)) (flat_map (λ i. eight f (8 * i)) xs) h))
 one_of w c f (x ∷ xs) (suc j) i h e = let z : c + 1 + j ≡ c + suc j = omega arith in subst (λ (y : ℕ). Stands w y (eight f (8 * i))) z (one_of w (c + 1) f xs j i (stands_back w c 1 (eight f (8 * x)) (flat_map (λ i. eight f (8 * i)) xs) refl h) e)
@@ -122,7 +122,7 @@ inner_cell p c e = omega arith
 inner_wide : (p c : ℕ) → p ≡ 32 * c + 28 → c < 2 ^ 26 → kind_at p ≡ Some Wide
 inner_wide p c e l = let o : p % 32 ≡ 28 = omega arith in kind_by_offset p (λ z. omega arith) (omega arith) ∙ ap (λ (x : ℕ). kind_at_offset x) o
 
-few_below : (p : ℕ → Bool) (i : ℕ) → count_by p (range_with_len 0 i) ≤ i
+pub few_below : (p : ℕ → Bool) (i : ℕ) → count_by p (range_with_len 0 i) ≤ i
 few_below p i = omega (arith, count_by-le-length p (range_with_len 0 i), length-range_with_len 0 i)
 
 module _ (w w' : List ℕ) (g g' : Ledger) (node b entry x : ℕ) (q bytes : List ℕ) (own : Owns g' x (wide_owners bytes x q)) (low : x + 64 < 2 ^ 26) where
