@@ -8,7 +8,8 @@ use Rattle.cell_layout.specs.declared.Kind.TheVariants as kind
 use Rattle.cell_layout.specs.Pointers.{kind_at}
 use Rattle.cell_layout.specs.Slots.{slot_at, child_count}
 use Rattle.cell_layout.proofs.PointerKinds.{is_kind, next_byte}
-use Rattle.trie_image.specs.declared.Owner.TheVariants.{ChainCell, SparseCell, TopCell, MidCell, PrefixCell}
+use Rattle.trie_image.specs.declared.Owner.{Owner}
+use Rattle.trie_image.specs.declared.Owner.TheVariants.{HeadCell, ChainCell, SparseCell, TopCell, MidCell, LeafCell, PrefixCell}
 use Rattle.trie_image.specs.declared.Ledger.{Ledger}
 use Rattle.trie_image.specs.declared.exit.Stand.{Stand}
 use Rattle.trie_image.specs.declared.exit.Meets.TheVariants.{OtherByte, Sparse, Full, NoLeaf, NoMid}
@@ -63,12 +64,29 @@ pub over_children : (w : List ℕ) (g : Ledger) (y n b : ℕ) → IsNode n → O
 over_children w g y n b is (itself e) = ap (λ (x : ℕ). child_of w x b (kind_at x)) e ∙ own_children w n b is
 over_children w g y n b is (by_prefix k e) = ap (λ (x : Option Kind). child_of w y b x) k ∙ ap (λ (x : ℕ). node_child w x b (kind_at x)) e
 
+-- a chain pointer before the last byte of its cell reads this byte and is the next pointer
+pub next_reads : (w : List ℕ) (p b : ℕ) → kind_at p ≡ Some kind.Chain → cell_byte w (p / 32) (p % 32) ≡ b → p % 32 ≢ 27 → Reads (reading w) p (b ∷ []) (p + 1)
+next_reads w p b k e l = (
+  (is_kind p (Some kind.Chain) k).0,
+  ap (λ (x : Option Kind). record_of w p x) k,
+  (λ a ne. ap (λ (x : Option Kind). child_of w p a x) k ∙ cond-false (cell_byte w (p / 32) (p % 32) == a) (cond (p % 32 == 27) (field w (p / 32) 7) (p + 1)) 0 (ne_eqb (cell_byte w (p / 32) (p % 32)) a (λ z. ne (sym z ∙ e)))),
+  ap (λ (x : Option Kind). child_of w p b x) k ∙ (cond-true (cell_byte w (p / 32) (p % 32) == b) (cond (p % 32 == 27) (field w (p / 32) 7) (p + 1)) 0 (eq-eqb (cell_byte w (p / 32) (p % 32)) b e) ∙ cond-false (p % 32 == 27) (field w (p / 32) 7) (p + 1) (ne_eqb (p % 32) 27 l)),
+)
+
 module _ (w : List ℕ) (g : Ledger) (cells : ℕ) (ok : IsImage w g cells) where
+  -- the cell is no prefix cell
+  abbrev pub NoPrefix : ℕ → Type 0
+  NoPrefix c = (r : List ℕ) → owner g c ≡ Some (PrefixCell r) → ⊥
+
+  not_prefix : (c : ℕ) (o : Owner) → owner g c ≡ Some o → ((r : List ℕ) → o ≡ PrefixCell r → ⊥) → NoPrefix c
+  not_prefix c o e ne r p = let both : Some o ≡ Some (PrefixCell r) = sym e ∙ p in let is : o ≡ PrefixCell r = cc in ne r is
+
   -- a walk stands here, after the bytes of the path
   pub record Here (q m path : List ℕ) (s : Stand) : Type 0 where
     pub stands : StandsAt w g q m path s
     pub walks : s.at ≢ 0 → Walks (reading w) (root_of w) path s.at
     pub plain : (m ≡ []) ⊎ (kind_at s.at ≡ Some kind.Chain)
+    pub outside : kind_at s.at ≡ Some kind.Content → NoPrefix s.cell
 
   at_home : (q m path : List ℕ) (s : Stand) → StandsAt w g q m path s → m ≡ [] → StandsAt w g path [] path s
   at_home q m path s h e = let same : path ≡ q = h.passed ∙ (ap (λ (x : List ℕ). q ++ x) e ∙ append-nil q) in record {
@@ -107,14 +125,15 @@ module _ (w : List ℕ) (g : Ledger) (cells : ℕ) (ok : IsImage w g cells) wher
         subst (λ (y : ℕ). Walks (reading w) (root_of w) (path ++ b ∷ []) y) is (walks_on (reading w) path (root_of w) reached.last b reached.walks there),
       )
 
-      to_field : (cell place : ℕ) → Home w g (path ++ b ∷ []) cell place → node_child w s.at b (kind_at s.at) ≡ field w cell place → Steps (On (stand_in w cell place))
-      to_field cell place home e = (
+      to_field : (cell place : ℕ) → Home w g (path ++ b ∷ []) cell place → NoPrefix cell → node_child w s.at b (kind_at s.at) ≡ field w cell place → Steps (On (stand_in w cell place))
+      to_field cell place home outside e = (
         path ++ b ∷ [],
         [],
         record {
           stands = record { held = refl; home = home; entered = λ ne. (arrives (field w cell place) e ne).0; reads = refl; forward = add_zero _; offset = omega arith; bytes = λ i l. absurd (omega arith); passed = sym (append-nil (path ++ b ∷ [])); at_path = λ ne. (arrives (field w cell place) e ne).0 };
           walks = λ ne. (arrives (field w cell place) e ne).1;
           plain = inl refl;
+          outside = λ c. outside;
         },
       )
 
@@ -130,15 +149,7 @@ module _ (w : List ℕ) (g : Ledger) (cells : ℕ) (ok : IsImage w g cells) wher
             let goes : node_child w s.at b (kind_at s.at) ≡ field w (s.at / 32) 7 = byte_led e ∙ cond-true (s.at % 32 == 27) (field w (s.at / 32) 7) (s.at + 1) (eq-eqb (s.at % 32) 27 l) in
             let there : HasPath g (field w (s.at / 32) 7) (path ++ b ∷ []) = (arrives (field w (s.at / 32) 7) goes (path_nonzero g (field w (s.at / 32) 7) i.1 cell.tail)).0 in
             let same : i.1 ≡ path ++ b ∷ [] = path_once g (field w (s.at / 32) 7) i.1 (path ++ b ∷ []) cell.tail there in
-            to_field (s.at / 32) 7 (tail record { before = path; byte = b; parent = s.at; whole = refl; reached = reached; kind = k; here = refl; end = l; is_byte = e; from = i.0; own = subst (λ (x : List ℕ). owner g (s.at / 32) ≡ Some (ChainCell i.0 x)) same i.2; is_place = refl }) goes
-
-        one_byte : cell_byte w (s.at / 32) (s.at % 32) ≡ b → s.at % 32 ≢ 27 → Reads (reading w) s.at (b ∷ []) (s.at + 1)
-        one_byte e l = (
-          (is_kind s.at (Some kind.Chain) k).0,
-          ap (λ (x : Option Kind). record_of w s.at x) k,
-          (λ a ne. own_children w s.at a is_node ∙ (chain_led a ∙ cond-false (cell_byte w (s.at / 32) (s.at % 32) == a) (cond (s.at % 32 == 27) (field w (s.at / 32) 7) (s.at + 1)) 0 (ne_eqb (cell_byte w (s.at / 32) (s.at % 32)) a (λ z. ne (sym z ∙ e))))),
-          own_children w s.at b is_node ∙ (byte_led e ∙ cond-false (s.at % 32 == 27) (field w (s.at / 32) 7) (s.at + 1) (ne_eqb (s.at % 32) 27 l)),
-        )
+            to_field (s.at / 32) 7 (tail record { before = path; byte = b; parent = s.at; whole = refl; reached = reached; kind = k; here = refl; end = l; is_byte = e; from = i.0; own = subst (λ (x : List ℕ). owner g (s.at / 32) ≡ Some (ChainCell i.0 x)) same i.2; is_place = refl }) (not_prefix (s.at / 32) (ChainCell i.0 i.1) i.2 (λ r z. cc)) goes
 
         more_bytes : cell_byte w (s.at / 32) (s.at % 32) ≡ b → s.at % 32 ≢ 27 → (i : ℕ) → i < length (m ++ b ∷ []) → cell_byte w ((s.at + 1) / 32) ((s.at + 1) % 32 - length (m ++ b ∷ []) + i) ≡ slice_index (m ++ b ∷ []) i
         more_bytes e l i less = let place = next_byte s.at k l in let more = length-append m (b ∷ []) in let back : (s.at + 1) % 32 - length (m ++ b ∷ []) + i ≡ s.at % 32 - length m + i = omega (arith, more, place.2) in
@@ -151,9 +162,10 @@ module _ (w : List ℕ) (g : Ledger) (cells : ℕ) (ok : IsImage w g cells) wher
           q,
           m ++ b ∷ [],
           record {
-            stands = record { held = h.held; home = h.home; entered = h.entered; reads = reads_on (reading w) m (b ∷ []) s.entered s.at (s.at + 1) h.reads (one_byte e l); forward = omega (arith, h.forward, more); offset = omega (arith, h.offset, more, place.2); bytes = more_bytes e l; passed = ap (λ (x : List ℕ). x ++ b ∷ []) h.passed ∙ append_assoc q m (b ∷ []); at_path = λ ne. (arrives (s.at + 1) goes ne).0 };
+            stands = record { held = h.held; home = h.home; entered = h.entered; reads = reads_on (reading w) m (b ∷ []) s.entered s.at (s.at + 1) h.reads (next_reads w s.at b k e l); forward = omega (arith, h.forward, more); offset = omega (arith, h.offset, more, place.2); bytes = more_bytes e l; passed = ap (λ (x : List ℕ). x ++ b ∷ []) h.passed ∙ append_assoc q m (b ∷ []); at_path = λ ne. (arrives (s.at + 1) goes ne).0 };
             walks = λ ne. (arrives (s.at + 1) goes ne).1;
             plain = inr (next_byte s.at k l).0;
+            outside = λ c. let both : Some kind.Content ≡ Some kind.Chain = sym c ∙ (next_byte s.at k l).0 in absurd (cc);
           },
         )
 
@@ -165,7 +177,7 @@ module _ (w : List ℕ) (g : Ledger) (cells : ℕ) (ok : IsImage w g cells) wher
 
       module _ (k : kind_at s.at ≡ Some kind.Sparse) where
         slot_steps : (o : Option ℕ) → slot_at (word_of w (s.at / 32) 3) b ≡ o → Steps (slot_step w s o)
-        slot_steps (Some n) e = to_field (s.at / 32) n (slot record { before = path; byte = b; parent = s.at; whole = refl; reached = reached; kind = k; here = refl; own = sparse_of g s.at path reached.node k; slot = e })
+        slot_steps (Some n) e = to_field (s.at / 32) n (slot record { before = path; byte = b; parent = s.at; whole = refl; reached = reached; kind = k; here = refl; own = sparse_of g s.at path reached.node k; slot = e }) (not_prefix (s.at / 32) (SparseCell path) (sparse_of g s.at path reached.node k) (λ r z. cc))
             (ap (λ (x : Option Kind). node_child w s.at b x) k ∙ ap (λ (x : Option ℕ). slot_child w (s.at / 32) x) e)
         slot_steps None e = let cell : IsSparseCell w g (s.at / 32) path = ok.each (s.at / 32) (SparseCell path) (sparse_of g s.at path reached.node k) in let count : ℕ = child_count (word_of w (s.at / 32) 3) in
             steps_if (nat_lt count 6) (Left Sparse (stand_at (s.at / 32) 0 s.at)) (Left Full s)
@@ -191,6 +203,7 @@ module _ (w : List ℕ) (g : Ledger) (cells : ℕ) (ok : IsImage w g cells) wher
             (λ v key rest whole so_far. record { path = path; byte = b; rest = rest; parent = s.at; top = t; whole = whole; so_far = so_far; split = is_split; mid = is_mid; place = refl; absent = eqb-true y 0 v })
             (λ v. let there : y ≢ 0 = eqb-false y 0 v in to_field (y / 32) (b % 8)
             (leaf record { before = path; byte = b; parent = s.at; top = t; whole = refl; split = is_split; leaf = record { mid = c; is_mid = is_mid; there = there; here = refl; own = mids.leaves (b / 8 % 8) (omega arith) there }; is_place = refl })
+            (not_prefix (y / 32) (LeafCell t (b / 64) (b / 8 % 8)) (mids.leaves (b / 8 % 8) (omega arith) there) (λ r z. cc))
             (split_led ∙ (cond-false (x == 0) 0 (leaf_child w y b) u ∙ cond-false (y == 0) 0 (field w (y / 32) (b % 8)) v))))
 
       no_node : (k : Option Kind) → kind_at s.at ≡ k → (k ≡ Some kind.Chain → ⊥) → (k ≡ Some kind.Sparse → ⊥) → (k ≡ Some kind.Wide → ⊥) → ⊥
@@ -223,7 +236,7 @@ module _ (w : List ℕ) (g : Ledger) (cells : ℕ) (ok : IsImage w g cells) wher
       byte_steps (Some kind.Sparse) e = subst (λ (k : Option Kind). Steps (node_step w b s k)) e (alone (is_kind s.at (Some kind.Sparse) e).0 (inr (inl e)))
       byte_steps (Some kind.Wide) e = subst (λ (k : Option Kind). Steps (node_step w b s k)) e (alone (is_kind s.at (Some kind.Wide) e).0 (inr (inr e)))
       byte_steps (Some kind.Prefix) e = under e
-      byte_steps (Some kind.Content) e = λ key rest whole so_far. record { path = path; byte = b; rest = rest; whole = whole; so_far = so_far; stands = plainly q m path s here.stands here.plain (λ z. let both : Some kind.Chain ≡ Some kind.Content = sym z ∙ e in cc); is_content = e }
+      byte_steps (Some kind.Content) e = λ key rest whole so_far. record { path = path; byte = b; rest = rest; whole = whole; so_far = so_far; stands = plainly q m path s here.stands here.plain (λ z. let both : Some kind.Chain ≡ Some kind.Content = sym z ∙ e in cc); is_content = e; no_prefix = here.outside e }
       byte_steps (Some kind.Nothing) e = λ key rest whole so_far. record { path = path; rest = b ∷ rest; whole = whole; so_far = so_far; stands = plainly q m path s here.stands here.plain (λ z. let both : Some kind.Chain ≡ Some kind.Nothing = sym z ∙ e in cc); is_nothing = is_kind s.at (Some kind.Nothing) e }
       byte_steps None e = absurd (no_kind_of g s.at path e (here.stands.at_path (is_kind s.at None e).0))
 
@@ -258,4 +271,5 @@ module _ (w : List ℕ) (g : Ledger) (cells : ℕ) (ok : IsImage w g cells) wher
       stands = record { held = refl; home = root refl refl refl; entered = λ ne. ok.root ne; reads = refl; forward = add_zero _; offset = omega arith; bytes = λ i l. absurd (omega arith); passed = refl; at_path = λ ne. ok.root ne };
       walks = λ ne. refl;
       plain = inl refl;
+      outside = λ c. not_prefix 0 HeadCell ok.head (λ r z. cc);
     } refl refl

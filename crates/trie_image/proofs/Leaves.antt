@@ -3,6 +3,7 @@ use Rattle.std.proofs.Common.{◌≡◌, ◌≢◌, ◌⊎◌, ℕ, ◌+◌, ◌
 use Rattle.cell_layout.specs.declared.Kind.TheVariants as kind
 use Rattle.cell_layout.specs.Pointers.{kind_at}
 use Rattle.cell_layout.specs.Slots.{slot_at, child_count}
+use Rattle.trie_image.specs.declared.Owner.TheVariants.{PrefixCell}
 use Rattle.trie_image.specs.declared.Ledger.{Ledger}
 use Rattle.trie_image.specs.declared.exit.Stand.{Stand}
 use Rattle.trie_image.specs.declared.exit.Meets.{Meets}
@@ -10,7 +11,7 @@ use Rattle.trie_image.specs.declared.exit.Meets.TheVariants.{Content, Nothing, O
 use Rattle.trie_image.specs.declared.exit.Exit.{Exit}
 use Rattle.trie_image.specs.Reading.{Reads}
 use Rattle.trie_image.specs.Image.{word_of, field, cell_byte, reading}
-use Rattle.trie_image.specs.Paths.{HasPath}
+use Rattle.trie_image.specs.Paths.{owner, HasPath}
 use Rattle.trie_image.proofs.Homes.{Reaches, IsMidUnder, IsSplitAt, Home}
 
 -- all below 256
@@ -124,6 +125,7 @@ module _ (w : List ℕ) (g : Ledger) where
     pub so_far : taken ≡ length path
     pub stands : StandsAt path [] path s
     pub is_content : kind_at s.at ≡ Some kind.Content
+    pub no_prefix : (r : List ℕ) → owner g s.cell ≡ Some (PrefixCell r) → ⊥
 
   -- what a walk's end tells
   abbrev pub LeavesBy : List ℕ → Meets → Stand → ℕ → Type 0
