@@ -11,6 +11,10 @@ pub mod Relinked
 pub mod Grown
 pub mod Live
 pub mod Tails
+pub mod NewOwners
+pub mod NewFurther
+pub mod NewCases
+pub mod HomeStores
 pub mod Opening
 pub mod Entries
 pub mod Nodes
