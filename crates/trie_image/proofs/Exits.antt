@@ -100,6 +100,7 @@ module _ (w : List ℕ) (g : Ledger) (cells : ℕ) (ok : IsImage w g cells) wher
     forward = h.forward ∙ ap (λ (x : List ℕ). s.entered + length x) e;
     offset = omega arith;
     bytes = λ i l. absurd (omega arith);
+    plain = inl refl;
     passed = sym (append-nil path);
     at_path = h.at_path;
   }
@@ -133,7 +134,7 @@ module _ (w : List ℕ) (g : Ledger) (cells : ℕ) (ok : IsImage w g cells) wher
         path ++ b ∷ [],
         [],
         record {
-          stands = record { held = refl; home = home; entered = λ ne. (arrives (field w cell place) e ne).0; reads = refl; forward = add_zero _; offset = omega arith; bytes = λ i l. absurd (omega arith); passed = sym (append-nil (path ++ b ∷ [])); at_path = λ ne. (arrives (field w cell place) e ne).0 };
+          stands = record { held = refl; home = home; entered = λ ne. (arrives (field w cell place) e ne).0; reads = refl; forward = add_zero _; offset = omega arith; bytes = λ i l. absurd (omega arith); plain = inl refl; passed = sym (append-nil (path ++ b ∷ [])); at_path = λ ne. (arrives (field w cell place) e ne).0 };
           walks = λ ne. (arrives (field w cell place) e ne).1;
           plain = inl refl;
           outside = λ c. outside;
@@ -165,7 +166,7 @@ module _ (w : List ℕ) (g : Ledger) (cells : ℕ) (ok : IsImage w g cells) wher
           q,
           m ++ b ∷ [],
           record {
-            stands = record { held = h.held; home = h.home; entered = h.entered; reads = reads_on (reading w) m (b ∷ []) s.entered s.at (s.at + 1) h.reads (next_reads w s.at b k e l); forward = omega (arith, h.forward, more); offset = omega (arith, h.offset, more, place.2); bytes = more_bytes e l; passed = ap (λ (x : List ℕ). x ++ b ∷ []) h.passed ∙ append_assoc q m (b ∷ []); at_path = λ ne. (arrives (s.at + 1) goes ne).0 };
+            stands = record { held = h.held; home = h.home; entered = h.entered; reads = reads_on (reading w) m (b ∷ []) s.entered s.at (s.at + 1) h.reads (next_reads w s.at b k e l); forward = omega (arith, h.forward, more); offset = omega (arith, h.offset, more, place.2); bytes = more_bytes e l; plain = inr (next_byte s.at k l).0; passed = ap (λ (x : List ℕ). x ++ b ∷ []) h.passed ∙ append_assoc q m (b ∷ []); at_path = λ ne. (arrives (s.at + 1) goes ne).0 };
             walks = λ ne. (arrives (s.at + 1) goes ne).1;
             plain = inr (next_byte s.at k l).0;
             outside = λ e. absurd (let none : length (m ++ b ∷ []) ≡ 0 = ap (λ (x : List ℕ). length x) e in omega (arith, none, length-append m (b ∷ [])));
@@ -231,7 +232,7 @@ module _ (w : List ℕ) (g : Ledger) (cells : ℕ) (ok : IsImage w g cells) wher
       under : kind_at s.at ≡ Some kind.Prefix → Steps (node_step w b (stand_in w (s.at / 32) 1) (kind_at (field w (s.at / 32) 1)))
       under k = let ne : s.at ≢ 0 = (is_kind s.at (Some kind.Prefix) k).0 in let at : HasPath g s.at path = here.stands.at_path ne in let own = prefix_of g s.at path at k in let cell : IsPrefixCell w g (s.at / 32) path = ok.each (s.at / 32) (PrefixCell path) own in
           node_steps small (stand_in w (s.at / 32) 1) path []
-          record { held = refl; home = node record { prefix = s.at; walks = here.walks ne; path = at; kind = k; here = refl; own = own } refl; entered = λ z. cell.node; reads = refl; forward = add_zero _; offset = omega arith; bytes = λ i l. absurd (omega arith); passed = sym (append-nil path); at_path = λ z. cell.node } (inl refl) cell.is_node
+          record { held = refl; home = node record { prefix = s.at; walks = here.walks ne; path = at; kind = k; here = refl; own = own } refl; entered = λ z. cell.node; reads = refl; forward = add_zero _; offset = omega arith; bytes = λ i l. absurd (omega arith); plain = inl refl; passed = sym (append-nil path); at_path = λ z. cell.node } (inl refl) cell.is_node
           record { last = s.at; walks = here.walks ne; last_path = at; over = by_prefix k refl; node = cell.node } (kind_at (field w (s.at / 32) 1)) refl
 
       byte_steps : (k : Option Kind) → kind_at s.at ≡ k → Steps (byte_step w b s k)
@@ -256,7 +257,7 @@ module _ (w : List ℕ) (g : Ledger) (cells : ℕ) (ok : IsImage w g cells) wher
     ends s q m taken here so_far (Some kind.Nothing) e = record { path = key; rest = []; whole = append-nil key; so_far = so_far; stands = plainly q m key s here.stands here.plain (λ z. let both : Some kind.Chain ≡ Some kind.Nothing = sym z ∙ e in cc); is_nothing = is_kind s.at (Some kind.Nothing) e }
     ends s q m taken here so_far (Some kind.Content) e = record { stands = plainly q m key s here.stands here.plain (λ z. let both : Some kind.Chain ≡ Some kind.Content = sym z ∙ e in cc); is_content = e }
     ends s q m taken here so_far (Some kind.Prefix) e = let ne : s.at ≢ 0 = (is_kind s.at (Some kind.Prefix) e).0 in let at : HasPath g s.at key = here.stands.at_path ne in let own = prefix_of g s.at key at e in let cell : IsPrefixCell w g (s.at / 32) key = ok.each (s.at / 32) (PrefixCell key) own in record {
-      stands = record { held = refl; home = content record { prefix = s.at; walks = here.walks ne; path = at; kind = e; here = refl; own = own } refl; entered = λ z. cell.content; reads = refl; forward = add_zero _; offset = omega arith; bytes = λ i l. absurd (omega arith); passed = sym (append-nil key); at_path = λ z. cell.content };
+      stands = record { held = refl; home = content record { prefix = s.at; walks = here.walks ne; path = at; kind = e; here = refl; own = own } refl; entered = λ z. cell.content; reads = refl; forward = add_zero _; offset = omega arith; bytes = λ i l. absurd (omega arith); plain = inl refl; passed = sym (append-nil key); at_path = λ z. cell.content };
       is_content = cell.is_content;
     }
     ends s q m taken here so_far (Some kind.Chain) e = record { home_path = q; inside = m; stands = here.stands; is_node = inl e; bare = bare key s q m here }
@@ -278,7 +279,7 @@ module _ (w : List ℕ) (g : Ledger) (cells : ℕ) (ok : IsImage w g cells) wher
     -- the end of the walk to the key
     pub leaves : AreBytes key → Leaves w g key (exit_of w key)
     leaves bytes = exits key (stand_in w 0 2) [] [] [] 0 bytes record {
-      stands = record { held = refl; home = root refl refl refl; entered = λ ne. ok.root ne; reads = refl; forward = add_zero _; offset = omega arith; bytes = λ i l. absurd (omega arith); passed = refl; at_path = λ ne. ok.root ne };
+      stands = record { held = refl; home = root refl refl refl; entered = λ ne. ok.root ne; reads = refl; forward = add_zero _; offset = omega arith; bytes = λ i l. absurd (omega arith); plain = inl refl; passed = refl; at_path = λ ne. ok.root ne };
       walks = λ ne. refl;
       plain = inl refl;
       outside = λ c. not_prefix 0 HeadCell ok.head (λ r z. cc);

@@ -29,6 +29,7 @@ module _ (w : List ℕ) (g : Ledger) where
     pub forward : s.at ≡ s.entered + length m
     pub offset : length m ≤ s.at % 32
     pub bytes : (i : ℕ) → i < length m → cell_byte w (s.at / 32) (s.at % 32 - length m + i) ≡ slice_index m i
+    pub plain : (m ≡ []) ⊎ (kind_at s.at ≡ Some kind.Chain)
     pub passed : path ≡ q ++ m
     pub at_path : s.at ≢ 0 → HasPath g s.at path
 
