@@ -38,3 +38,4 @@ pub mod Stored
 pub mod Lives
 pub mod Turned
 pub mod Seen
+pub mod Cases
