@@ -39,3 +39,5 @@ pub mod Lives
 pub mod Turned
 pub mod Seen
 pub mod Cases
+pub mod Prepared
+pub mod Mapped
