@@ -41,3 +41,4 @@ pub mod Seen
 pub mod Cases
 pub mod Prepared
 pub mod Mapped
+pub mod Places
