@@ -28,7 +28,7 @@ module _ (w w' : List ℕ) where
   pub same_field : (c i : ℕ) → SameWords w w' c → i < 8 → field w' c i ≡ field w c i
   same_field c i h l = ap (λ (x : ℕ). half_of x (i % 2 == 1)) (h (i / 2) (omega arith))
 
-  same_byte : (c o : ℕ) → SameWords w w' c → o < 32 → cell_byte w' c o ≡ cell_byte w c o
+  pub same_byte : (c o : ℕ) → SameWords w w' c → o < 32 → cell_byte w' c o ≡ cell_byte w c o
   same_byte c o h l = ap (λ (x : ℕ). byte_of x (o % 8)) (h (o / 8) (omega arith))
 
   path_at : (g : Ledger) (q : List ℕ) (a b : ℕ) → a ≡ b → HasPath g b q → HasPath g a q

@@ -15,6 +15,8 @@ pub mod NewOwners
 pub mod NewFurther
 pub mod NewCases
 pub mod HomeStores
+pub mod HomeChanges
+pub mod HomePublishes
 pub mod Opening
 pub mod Entries
 pub mod Nodes
