@@ -17,6 +17,7 @@ pub mod NewCases
 pub mod HomeStores
 pub mod HomeChanges
 pub mod HomePublishes
+pub mod HomeInner
 pub mod Opening
 pub mod Entries
 pub mod Nodes
