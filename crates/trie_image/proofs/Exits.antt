@@ -54,6 +54,9 @@ walks_on r (d ∷ bs) a x b (n, walk) ne = (n, walks_on r bs (r.child a d) x b w
 abbrev pub IsNode : ℕ → Type 0
 IsNode p = (kind_at p ≡ Some kind.Chain) ⊎ ((kind_at p ≡ Some kind.Sparse) ⊎ (kind_at p ≡ Some kind.Wide))
 
+pub node_nonzero : (p : ℕ) → IsNode p → p ≢ 0
+node_nonzero p is = ⊎_elim (λ (e : kind_at p ≡ Some kind.Chain). (is_kind p (Some kind.Chain) e).0) (λ t. ⊎_elim (λ (e : kind_at p ≡ Some kind.Sparse). (is_kind p (Some kind.Sparse) e).0) (λ (e : kind_at p ≡ Some kind.Wide). (is_kind p (Some kind.Wide) e).0) t) is
+
 -- its children are those of a prefix cell over it
 pub own_children : (w : List ℕ) (n b : ℕ) → IsNode n → child_of w n b (kind_at n) ≡ node_child w n b (kind_at n)
 own_children w n b is = ⊎_elim (λ (e : kind_at n ≡ Some kind.Chain). subst (λ (k : Option Kind). child_of w n b k ≡ node_child w n b k) (sym e) refl) (λ t. ⊎_elim
@@ -86,7 +89,7 @@ module _ (w : List ℕ) (g : Ledger) (cells : ℕ) (ok : IsImage w g cells) wher
     pub stands : StandsAt w g q m path s
     pub walks : s.at ≢ 0 → Walks (reading w) (root_of w) path s.at
     pub plain : (m ≡ []) ⊎ (kind_at s.at ≡ Some kind.Chain)
-    pub outside : kind_at s.at ≡ Some kind.Content → NoPrefix s.cell
+    pub outside : m ≡ [] → NoPrefix s.cell
 
   at_home : (q m path : List ℕ) (s : Stand) → StandsAt w g q m path s → m ≡ [] → StandsAt w g path [] path s
   at_home q m path s h e = let same : path ≡ q = h.passed ∙ (ap (λ (x : List ℕ). q ++ x) e ∙ append-nil q) in record {
@@ -97,6 +100,7 @@ module _ (w : List ℕ) (g : Ledger) (cells : ℕ) (ok : IsImage w g cells) wher
     forward = h.forward ∙ ap (λ (x : List ℕ). s.entered + length x) e;
     offset = omega arith;
     bytes = λ i l. absurd (omega arith);
+    plain = inl refl;
     passed = sym (append-nil path);
     at_path = h.at_path;
   }
@@ -130,7 +134,7 @@ module _ (w : List ℕ) (g : Ledger) (cells : ℕ) (ok : IsImage w g cells) wher
         path ++ b ∷ [],
         [],
         record {
-          stands = record { held = refl; home = home; entered = λ ne. (arrives (field w cell place) e ne).0; reads = refl; forward = add_zero _; offset = omega arith; bytes = λ i l. absurd (omega arith); passed = sym (append-nil (path ++ b ∷ [])); at_path = λ ne. (arrives (field w cell place) e ne).0 };
+          stands = record { held = refl; home = home; entered = λ ne. (arrives (field w cell place) e ne).0; reads = refl; forward = add_zero _; offset = omega arith; bytes = λ i l. absurd (omega arith); plain = inl refl; passed = sym (append-nil (path ++ b ∷ [])); at_path = λ ne. (arrives (field w cell place) e ne).0 };
           walks = λ ne. (arrives (field w cell place) e ne).1;
           plain = inl refl;
           outside = λ c. outside;
@@ -162,10 +166,10 @@ module _ (w : List ℕ) (g : Ledger) (cells : ℕ) (ok : IsImage w g cells) wher
           q,
           m ++ b ∷ [],
           record {
-            stands = record { held = h.held; home = h.home; entered = h.entered; reads = reads_on (reading w) m (b ∷ []) s.entered s.at (s.at + 1) h.reads (next_reads w s.at b k e l); forward = omega (arith, h.forward, more); offset = omega (arith, h.offset, more, place.2); bytes = more_bytes e l; passed = ap (λ (x : List ℕ). x ++ b ∷ []) h.passed ∙ append_assoc q m (b ∷ []); at_path = λ ne. (arrives (s.at + 1) goes ne).0 };
+            stands = record { held = h.held; home = h.home; entered = h.entered; reads = reads_on (reading w) m (b ∷ []) s.entered s.at (s.at + 1) h.reads (next_reads w s.at b k e l); forward = omega (arith, h.forward, more); offset = omega (arith, h.offset, more, place.2); bytes = more_bytes e l; plain = inr (next_byte s.at k l).0; passed = ap (λ (x : List ℕ). x ++ b ∷ []) h.passed ∙ append_assoc q m (b ∷ []); at_path = λ ne. (arrives (s.at + 1) goes ne).0 };
             walks = λ ne. (arrives (s.at + 1) goes ne).1;
             plain = inr (next_byte s.at k l).0;
-            outside = λ c. let both : Some kind.Content ≡ Some kind.Chain = sym c ∙ (next_byte s.at k l).0 in absurd (cc);
+            outside = λ e. absurd (let none : length (m ++ b ∷ []) ≡ 0 = ap (λ (x : List ℕ). length x) e in omega (arith, none, length-append m (b ∷ [])));
           },
         )
 
@@ -228,7 +232,7 @@ module _ (w : List ℕ) (g : Ledger) (cells : ℕ) (ok : IsImage w g cells) wher
       under : kind_at s.at ≡ Some kind.Prefix → Steps (node_step w b (stand_in w (s.at / 32) 1) (kind_at (field w (s.at / 32) 1)))
       under k = let ne : s.at ≢ 0 = (is_kind s.at (Some kind.Prefix) k).0 in let at : HasPath g s.at path = here.stands.at_path ne in let own = prefix_of g s.at path at k in let cell : IsPrefixCell w g (s.at / 32) path = ok.each (s.at / 32) (PrefixCell path) own in
           node_steps small (stand_in w (s.at / 32) 1) path []
-          record { held = refl; home = node record { prefix = s.at; walks = here.walks ne; path = at; kind = k; here = refl; own = own } refl; entered = λ z. cell.node; reads = refl; forward = add_zero _; offset = omega arith; bytes = λ i l. absurd (omega arith); passed = sym (append-nil path); at_path = λ z. cell.node } (inl refl) cell.is_node
+          record { held = refl; home = node record { prefix = s.at; walks = here.walks ne; path = at; kind = k; here = refl; own = own } refl; entered = λ z. cell.node; reads = refl; forward = add_zero _; offset = omega arith; bytes = λ i l. absurd (omega arith); plain = inl refl; passed = sym (append-nil path); at_path = λ z. cell.node } (inl refl) cell.is_node
           record { last = s.at; walks = here.walks ne; last_path = at; over = by_prefix k refl; node = cell.node } (kind_at (field w (s.at / 32) 1)) refl
 
       byte_steps : (k : Option Kind) → kind_at s.at ≡ k → Steps (byte_step w b s k)
@@ -236,9 +240,16 @@ module _ (w : List ℕ) (g : Ledger) (cells : ℕ) (ok : IsImage w g cells) wher
       byte_steps (Some kind.Sparse) e = subst (λ (k : Option Kind). Steps (node_step w b s k)) e (alone (is_kind s.at (Some kind.Sparse) e).0 (inr (inl e)))
       byte_steps (Some kind.Wide) e = subst (λ (k : Option Kind). Steps (node_step w b s k)) e (alone (is_kind s.at (Some kind.Wide) e).0 (inr (inr e)))
       byte_steps (Some kind.Prefix) e = under e
-      byte_steps (Some kind.Content) e = λ key rest whole so_far. record { path = path; byte = b; rest = rest; whole = whole; so_far = so_far; stands = plainly q m path s here.stands here.plain (λ z. let both : Some kind.Chain ≡ Some kind.Content = sym z ∙ e in cc); is_content = e; no_prefix = here.outside e }
+      byte_steps (Some kind.Content) e = λ key rest whole so_far. record { path = path; byte = b; rest = rest; whole = whole; so_far = so_far; stands = plainly q m path s here.stands here.plain (λ z. let both : Some kind.Chain ≡ Some kind.Content = sym z ∙ e in cc); is_content = e; no_prefix = here.outside (⊎_elim (λ z. z) (λ z. let both : Some kind.Chain ≡ Some kind.Content = sym z ∙ e in absurd (cc)) here.plain) }
       byte_steps (Some kind.Nothing) e = λ key rest whole so_far. record { path = path; rest = b ∷ rest; whole = whole; so_far = so_far; stands = plainly q m path s here.stands here.plain (λ z. let both : Some kind.Chain ≡ Some kind.Nothing = sym z ∙ e in cc); is_nothing = is_kind s.at (Some kind.Nothing) e }
       byte_steps None e = absurd (no_kind_of g s.at path e (here.stands.at_path (is_kind s.at None e).0))
+
+  empty : (l : List ℕ) → length l ≡ 0 → l ≡ []
+  empty [] e = refl
+  empty (x ∷ l) e = absurd (omega arith)
+
+  bare : (path : List ℕ) (s : Stand) (q m : List ℕ) → Here q m path s → s.at ≡ s.entered → NoPrefix s.cell
+  bare path s q m here e = here.outside (empty m (omega (arith, here.stands.forward, e)))
 
   module _ (key : List ℕ) where
     -- at the key's end
@@ -246,12 +257,12 @@ module _ (w : List ℕ) (g : Ledger) (cells : ℕ) (ok : IsImage w g cells) wher
     ends s q m taken here so_far (Some kind.Nothing) e = record { path = key; rest = []; whole = append-nil key; so_far = so_far; stands = plainly q m key s here.stands here.plain (λ z. let both : Some kind.Chain ≡ Some kind.Nothing = sym z ∙ e in cc); is_nothing = is_kind s.at (Some kind.Nothing) e }
     ends s q m taken here so_far (Some kind.Content) e = record { stands = plainly q m key s here.stands here.plain (λ z. let both : Some kind.Chain ≡ Some kind.Content = sym z ∙ e in cc); is_content = e }
     ends s q m taken here so_far (Some kind.Prefix) e = let ne : s.at ≢ 0 = (is_kind s.at (Some kind.Prefix) e).0 in let at : HasPath g s.at key = here.stands.at_path ne in let own = prefix_of g s.at key at e in let cell : IsPrefixCell w g (s.at / 32) key = ok.each (s.at / 32) (PrefixCell key) own in record {
-      stands = record { held = refl; home = content record { prefix = s.at; walks = here.walks ne; path = at; kind = e; here = refl; own = own } refl; entered = λ z. cell.content; reads = refl; forward = add_zero _; offset = omega arith; bytes = λ i l. absurd (omega arith); passed = sym (append-nil key); at_path = λ z. cell.content };
+      stands = record { held = refl; home = content record { prefix = s.at; walks = here.walks ne; path = at; kind = e; here = refl; own = own } refl; entered = λ z. cell.content; reads = refl; forward = add_zero _; offset = omega arith; bytes = λ i l. absurd (omega arith); plain = inl refl; passed = sym (append-nil key); at_path = λ z. cell.content };
       is_content = cell.is_content;
     }
-    ends s q m taken here so_far (Some kind.Chain) e = record { home_path = q; inside = m; stands = here.stands; is_node = inl e }
-    ends s q m taken here so_far (Some kind.Sparse) e = record { home_path = q; inside = m; stands = here.stands; is_node = inr (inl e) }
-    ends s q m taken here so_far (Some kind.Wide) e = record { home_path = q; inside = m; stands = here.stands; is_node = inr (inr e) }
+    ends s q m taken here so_far (Some kind.Chain) e = record { home_path = q; inside = m; stands = here.stands; is_node = inl e; bare = bare key s q m here }
+    ends s q m taken here so_far (Some kind.Sparse) e = record { home_path = q; inside = m; stands = here.stands; is_node = inr (inl e); bare = bare key s q m here }
+    ends s q m taken here so_far (Some kind.Wide) e = record { home_path = q; inside = m; stands = here.stands; is_node = inr (inr e); bare = bare key s q m here }
     ends s q m taken here so_far None e = absurd (no_kind_of g s.at key e (here.stands.at_path (is_kind s.at None e).0))
 
     goes : (path : List ℕ) (taken b : ℕ) (k : List ℕ) → path ++ b ∷ k ≡ key → taken ≡ length path → ((s : Stand) (q m : List ℕ) → Here q m (path ++ b ∷ []) s → Leaves w g key (exit_at w k s (taken + 1))) → (st : Step) → Steps path taken b st → Leaves w g key (exit_from st (λ next. exit_at w k next (taken + 1)) taken)
@@ -268,7 +279,7 @@ module _ (w : List ℕ) (g : Ledger) (cells : ℕ) (ok : IsImage w g cells) wher
     -- the end of the walk to the key
     pub leaves : AreBytes key → Leaves w g key (exit_of w key)
     leaves bytes = exits key (stand_in w 0 2) [] [] [] 0 bytes record {
-      stands = record { held = refl; home = root refl refl refl; entered = λ ne. ok.root ne; reads = refl; forward = add_zero _; offset = omega arith; bytes = λ i l. absurd (omega arith); passed = refl; at_path = λ ne. ok.root ne };
+      stands = record { held = refl; home = root refl refl refl; entered = λ ne. ok.root ne; reads = refl; forward = add_zero _; offset = omega arith; bytes = λ i l. absurd (omega arith); plain = inl refl; passed = refl; at_path = λ ne. ok.root ne };
       walks = λ ne. refl;
       plain = inl refl;
       outside = λ c. not_prefix 0 HeadCell ok.head (λ r z. cc);

@@ -29,6 +29,7 @@ module _ (w : List ℕ) (g : Ledger) where
     pub forward : s.at ≡ s.entered + length m
     pub offset : length m ≤ s.at % 32
     pub bytes : (i : ℕ) → i < length m → cell_byte w (s.at / 32) (s.at % 32 - length m + i) ≡ slice_index m i
+    pub plain : (m ≡ []) ⊎ (kind_at s.at ≡ Some kind.Chain)
     pub passed : path ≡ q ++ m
     pub at_path : s.at ≢ 0 → HasPath g s.at path
 
@@ -65,6 +66,7 @@ module _ (w : List ℕ) (g : Ledger) where
     pub inside : List ℕ
     pub stands : StandsAt home_path inside key s
     pub is_node : (kind_at s.at ≡ Some kind.Chain) ⊎ ((kind_at s.at ≡ Some kind.Sparse) ⊎ (kind_at s.at ≡ Some kind.Wide))
+    pub bare : s.at ≡ s.entered → (r : List ℕ) → owner g s.cell ≡ Some (PrefixCell r) → ⊥
 
   -- a sparse node with room and without the byte
   pub record MetSparse (key : List ℕ) (s : Stand) (taken : ℕ) : Type 0 where

@@ -39,3 +39,6 @@ pub mod Published
 pub mod Wides
 pub mod Stored
 pub mod Lives
+pub mod Turned
+pub mod Seen
+pub mod Cases
