@@ -15,7 +15,7 @@ use Rattle.trie_image.specs.Paths.{owner, HasPath}
 use Rattle.trie_image.specs.Cell.{IsChainCell, IsSparseCell, IsTopCell, IsMidCell, IsLeafCell, IsPrefixCell, IsCell, IsImage}
 use Rattle.trie_image.specs.Same.{SameWords}
 use Rattle.trie_image.proofs.Kept.{same_field, half_apart, cell_kept, same_cell, own_inside, not_first}
-use Rattle.trie_image.proofs.NewFurther.{IsNodePointer}
+use Rattle.trie_image.proofs.Exits.{IsNode}
 
 -- the words after a store of a pointer in a field of a cell
 abbrev pub stored_field : List ℕ → ℕ → ℕ → ℕ → List ℕ
@@ -120,7 +120,7 @@ module _ (w : List ℕ) (g : Ledger) (cells c p' : ℕ) (ok : IsImage w g cells)
       record { entered = chain.entered; long = chain.long; bytes = λ b lo hi. byte_stays from t own c b hi ∙ chain.bytes b lo hi; tail = subst (λ (x : ℕ). HasPath g x t) (sym (is_stored w g cells c 7 p' (ChainCell from t) ok own (omega arith) fits)) at }
 
   -- a slot of a sparse cell that its order word names
-  slot_word : (i b : ℕ) (q : List ℕ) → owner g c ≡ Some (SparseCell q) → slot_at (word_of w c 3) b ≡ Some i → word_of (stored_field w c i p') c 3 ≡ word_of w c 3
+  pub slot_word : (i b : ℕ) (q : List ℕ) → owner g c ≡ Some (SparseCell q) → slot_at (word_of w c 3) b ≡ Some i → word_of (stored_field w c i p') c 3 ≡ word_of w c 3
   slot_word i b q own e = let l = slot_is (word_of w c 3) b i e in others w g cells c i p' (SparseCell q) ok own (omega (arith, l.0)) fits c 3 (λ z. omega (arith, l.0))
 
   pub slot_stored : (i b : ℕ) (q : List ℕ) → owner g c ≡ Some (SparseCell q) → slot_at (word_of w c 3) b ≡ Some i → HasPath g p' (q ++ b ∷ []) → IsImage (stored_field w c i p') g cells
@@ -180,10 +180,10 @@ module _ (w : List ℕ) (g : Ledger) (cells c p' : ℕ) (ok : IsImage w g cells)
   content_stored q own at is = let cell : IsPrefixCell w g c q = ok.each c (PrefixCell q) own in let now = is_stored w g cells c 0 p' (PrefixCell q) ok own (omega arith) fits in
       let one = stays w g cells c 0 p' (PrefixCell q) ok own (omega arith) fits c 1 (omega arith) (λ x y. omega arith) in
       image_inner w g cells c 0 p' (PrefixCell q) ok own (omega arith) fits (λ x. cc)
-      record { content = subst (λ (x : ℕ). HasPath g x q) (sym now) at; is_content = ap (λ (x : ℕ). kind_at x) now ∙ is; node = subst (λ (x : ℕ). HasPath g x q) (sym one) cell.node; is_node = subst IsNodePointer (sym one) cell.is_node }
+      record { content = subst (λ (x : ℕ). HasPath g x q) (sym now) at; is_content = ap (λ (x : ℕ). kind_at x) now ∙ is; node = subst (λ (x : ℕ). HasPath g x q) (sym one) cell.node; is_node = subst IsNode (sym one) cell.is_node }
 
-  pub node_stored : (q : List ℕ) → owner g c ≡ Some (PrefixCell q) → HasPath g p' q → IsNodePointer p' → IsImage (stored_field w c 1 p') g cells
+  pub node_stored : (q : List ℕ) → owner g c ≡ Some (PrefixCell q) → HasPath g p' q → IsNode p' → IsImage (stored_field w c 1 p') g cells
   node_stored q own at is = let cell : IsPrefixCell w g c q = ok.each c (PrefixCell q) own in let now = is_stored w g cells c 1 p' (PrefixCell q) ok own (omega arith) fits in
       let zero_ = stays w g cells c 1 p' (PrefixCell q) ok own (omega arith) fits c 0 (omega arith) (λ x y. omega arith) in
       image_inner w g cells c 1 p' (PrefixCell q) ok own (omega arith) fits (λ x. cc)
-      record { content = subst (λ (x : ℕ). HasPath g x q) (sym zero_) cell.content; is_content = ap (λ (x : ℕ). kind_at x) zero_ ∙ cell.is_content; node = subst (λ (x : ℕ). HasPath g x q) (sym now) at; is_node = subst IsNodePointer (sym now) is }
+      record { content = subst (λ (x : ℕ). HasPath g x q) (sym zero_) cell.content; is_content = ap (λ (x : ℕ). kind_at x) zero_ ∙ cell.is_content; node = subst (λ (x : ℕ). HasPath g x q) (sym now) at; is_node = subst IsNode (sym now) is }

@@ -15,6 +15,9 @@ pub mod NewOwners
 pub mod NewFurther
 pub mod NewCases
 pub mod HomeStores
+pub mod HomeChanges
+pub mod HomePublishes
+pub mod HomeInner
 pub mod Opening
 pub mod Entries
 pub mod Nodes

@@ -16,14 +16,14 @@ use Rattle.trie_image.specs.Cell.{IsChainCell, IsImage}
 use Rattle.trie_image.specs.Body.{chain_rest, split_words, passed_words, prefix_words, lone_words, wide_words, over_passed, seven}
 use Rattle.trie_image.proofs.Owners.{chain_of, sparse_of}
 use Rattle.trie_image.proofs.Children.{closed}
-use Rattle.trie_image.proofs.Exits.{path_nonzero}
+use Rattle.trie_image.proofs.Exits.{path_nonzero, IsNode}
 use Rattle.trie_image.proofs.BodyLengths.{length_split}
 use Rattle.trie_image.proofs.CellWords.{Stands, stands_front, stands_back}
 use Rattle.trie_image.proofs.NewChains.{Owns, AreCells, owns_back, cells_joined, cell_alone, owner_first}
 use Rattle.trie_image.proofs.NewCells.{split_is, prefix_is, mid_is, leaf_is}
 use Rattle.trie_image.proofs.NewWide.{kind_by_offset, path_small, wide_owners, wide_cells_are}
 use Rattle.trie_image.proofs.NewOwners.{passed_owners}
-use Rattle.trie_image.proofs.NewFurther.{IsNodePointer, passed_are, over_path}
+use Rattle.trie_image.proofs.NewFurther.{passed_are, over_path}
 
 -- the child under a chain's byte
 module _ (w : List ℕ) (g : Ledger) (cells : ℕ) (ok : IsImage w g cells) (p : ℕ) (path : List ℕ) (at : HasPath g p path) (is : kind_at p ≡ Some kind.Chain) where
@@ -77,7 +77,7 @@ module _ (w w' : List ℕ) (g g' : Ledger) (cells : ℕ) (ok : IsImage w g cells
           over_path w g cells ok s q m path entered at_path forward offset passed w' g' x (inl is) own_passed low 30 node,
         )
 
-    pub key_end : IsNodePointer s.at → HasPath g' content path → kind_at content ≡ Some kind.Content → Owns g' x (PrefixCell path ∷ passed_owners s path)
+    pub key_end : IsNode s.at → HasPath g' content path → kind_at content ≡ Some kind.Content → Owns g' x (PrefixCell path ∷ passed_owners s path)
         → Stands w' x (prefix_words content s.at ++ passed_words w s (32 * x + 31)) → AreCells w' g' x (PrefixCell path ∷ passed_owners s path) × HasPath g' (over_passed s x 31) q
     key_end is at is_content own h = let prefix : List ℕ = prefix_words content s.at in let after : List ℕ = passed_words w s (32 * x + 31) in
         let own_passed : Owns g' (x + 1) (passed_owners s path) = owns_back g' x (x + 1) (PrefixCell path ∷ []) (passed_owners s path) refl own in

@@ -1,5 +1,5 @@
 -- The further cells of a put, by the case that the walk met, and the path of the pointer that is published.
-use Rattle.std.proofs.Common.{◌≡◌, ◌≢◌, ◌⊎◌, ℕ, ◌+◌, ◌-◌, ◌*◌, ◌/◌, ◌%◌, ◌^◌, ◌<◌, ◌≤◌, ◌==◌, Bool, true, false, cond, List, [], ◌∷◌, ◌++◌, length, Some, refl, sym, ap, ◌∙◌, subst, arith, inl, inr, append-nil, eqb-true}
+use Rattle.std.proofs.Common.{◌≡◌, ◌≢◌, ℕ, ◌+◌, ◌-◌, ◌*◌, ◌/◌, ◌%◌, ◌^◌, ◌<◌, ◌≤◌, ◌==◌, Bool, true, false, cond, List, [], ◌∷◌, ◌++◌, length, Some, refl, sym, ap, ◌∙◌, subst, arith, inl, inr, append-nil, eqb-true}
 use Rattle.std.proofs.lemmas.Bool.{eqb-false}
 use Rattle.cell_layout.specs.declared.Kind.TheVariants as kind
 use Rattle.cell_layout.specs.Pointers.{kind_at}
@@ -13,7 +13,7 @@ use Rattle.trie_image.specs.Cell.{IsChainCell, IsImage}
 use Rattle.trie_image.specs.Body.{chain_cell, passed_bytes, passed_words, over_passed}
 use Rattle.trie_image.proofs.Owners.{chain_of, sparse_of, wide_of}
 use Rattle.trie_image.proofs.Kept.{not_first}
-use Rattle.trie_image.proofs.Exits.{path_nonzero}
+use Rattle.trie_image.proofs.Exits.{path_nonzero, IsNode}
 use Rattle.trie_image.proofs.CellWords.{Stands}
 use Rattle.trie_image.proofs.NewChains.{Owns, AreCells, cell_alone, owner_first}
 use Rattle.trie_image.proofs.NewCells.{passed_is, passed_path}
@@ -34,10 +34,6 @@ wide_alone g a p q r (at_wide k o) same is own = let l : (a ≢ 0) × (a < 2 ^ 3
 wide_alone g a p q r (at_sparse k o) same is own = let two : Some (SparseCell q) ≡ Some (TopCell r) = sym o ∙ own in absurd (cc)
 wide_alone g a p q r (at_prefix k o) same is own = let two : Some (PrefixCell q) ≡ Some (TopCell r) = sym o ∙ own in absurd (cc)
 
--- a chain, sparse or wide pointer
-abbrev pub IsNodePointer : ℕ → Type 0
-IsNodePointer p = (kind_at p ≡ Some kind.Chain) ⊎ ((kind_at p ≡ Some kind.Sparse) ⊎ (kind_at p ≡ Some kind.Wide))
-
 module _ (w : List ℕ) (g : Ledger) (cells : ℕ) (ok : IsImage w g cells) (s : Stand) (q m path : List ℕ) (entered : s.entered ≢ 0 → HasPath g s.entered q) (at_path : HasPath g s.at path) (forward : s.at ≡ s.entered + length m) (offset : length m ≤ s.at % 32) (passed : path ≡ q ++ m) where
   -- the chain cell whose bytes were passed
   pub record IsPassed : Type 0 where
@@ -57,7 +53,7 @@ module _ (w : List ℕ) (g : Ledger) (cells : ℕ) (ok : IsImage w g cells) (s :
   there : (o : Owner) → owner g (s.at / 32) ≡ Some o → (o ≡ HeadCell → ⊥) → HasPath g s.entered q
   there o e ne = entered (λ z. let n = not_first g (s.at / 32) o ok.head e ne in n (omega arith))
 
-  still_chain : s.at ≢ s.entered → IsNodePointer s.at → kind_at s.at ≡ Some kind.Chain
+  still_chain : s.at ≢ s.entered → IsNode s.at → kind_at s.at ≡ Some kind.Chain
   still_chain ne (inl k) = k
   still_chain ne (inr (inl k)) = let o = sparse_of g s.at path at_path k in let same = same_cell in
       absurd (ne (sym (sparse_alone g s.entered s.at q path (there (SparseCell path) o (λ x. cc)) (sym same_cell) k (subst (λ (c : ℕ). owner g c ≡ Some (SparseCell path)) same_cell o))))
@@ -85,7 +81,7 @@ module _ (w : List ℕ) (g : Ledger) (cells : ℕ) (ok : IsImage w g cells) (s :
         to_entry = e.1;
       }
 
-  pub is_passed : s.at ≢ s.entered → IsNodePointer s.at → IsPassed
+  pub is_passed : s.at ≢ s.entered → IsNode s.at → IsPassed
   is_passed ne node = in_cell ne (still_chain ne node)
 
   pub none_passed : s.at ≡ s.entered → path ≡ q
@@ -95,7 +91,7 @@ module _ (w : List ℕ) (g : Ledger) (cells : ℕ) (ok : IsImage w g cells) (s :
       by [] z = append-nil q
       by (b ∷ l) z = absurd (omega arith)
 
-  module _ (w' : List ℕ) (g' : Ledger) (x : ℕ) (node : IsNodePointer s.at) (own : Owns g' (x + 1) (passed_owners s path)) (low : x + 64 < 2 ^ 26) where
+  module _ (w' : List ℕ) (g' : Ledger) (x : ℕ) (node : IsNode s.at) (own : Owns g' (x + 1) (passed_owners s path)) (low : x + 64 < 2 ^ 26) where
     -- the cell for the passed bytes
     pub passed_are : (next : ℕ) → Stands w' (x + 1) (passed_words w s next) → HasPath g' next path → AreCells w' g' (x + 1) (passed_owners s path)
     passed_are next h at = by (s.at == s.entered) refl h
