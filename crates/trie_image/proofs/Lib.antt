@@ -45,3 +45,4 @@ pub mod Cases
 pub mod Prepared
 pub mod Mapped
 pub mod Places
+pub mod NewSplits
