@@ -46,3 +46,4 @@ pub mod Prepared
 pub mod Mapped
 pub mod Places
 pub mod NewSplits
+pub mod WideOwners
