@@ -1,18 +1,16 @@
 -- What the publishing store leaves in the home that a walk found before the put.
-use Rattle.std.proofs.Common.{◌≡◌, ◌≢◌, ◌⊎◌, ℕ, zero, suc, ◌+◌, ◌-◌, ◌*◌, ◌/◌, ◌%◌, ◌^◌, ◌<◌, ◌≤◌, ◌==◌, List, [], ◌∷◌, ◌++◌, length, Option, Some, None, refl, sym, ap, ◌∙◌, subst, arith, ⊎_elim, inl, inr}
-use Rattle.std.proofs.lemmas.Bool.{cases_eq}
+use Rattle.std.proofs.Common.{◌≡◌, ℕ, ◌+◌, ◌*◌, ◌/◌, ◌%◌, ◌^◌, ◌<◌, List, [], ◌∷◌, ◌++◌, Some, sym, ap, ◌∙◌, subst, arith}
 use Rattle.cell_layout.specs.declared.Kind.TheVariants as kind
-use Rattle.cell_layout.specs.Words.{half_of}
 use Rattle.cell_layout.specs.Pointers.{kind_at, record_cell}
 use Rattle.cell_layout.specs.Slots.{slot_at}
 use Rattle.cell_layout.proofs.Added.{slot_small}
 use Rattle.trie_image.specs.declared.Owner.{Owner}
-use Rattle.trie_image.specs.declared.Owner.TheVariants.{HeadCell, ChainCell, SparseCell, TopCell, MidCell, LeafCell, PrefixCell}
+use Rattle.trie_image.specs.declared.Owner.TheVariants.{HeadCell, ChainCell, SparseCell, TopCell, LeafCell, PrefixCell}
 use Rattle.trie_image.specs.declared.Ledger.{Ledger}
-use Rattle.trie_image.specs.Image.{word_of, field, root_of}
+use Rattle.trie_image.specs.Image.{word_of, field}
 use Rattle.trie_image.specs.Paths.{owner, HasPath}
-use Rattle.trie_image.specs.Cell.{IsPrefixCell, IsCell, IsImage}
-use Rattle.trie_image.specs.Same.{SameWords, SameCell, IsSame}
+use Rattle.trie_image.specs.Cell.{IsPrefixCell, IsImage}
+use Rattle.trie_image.specs.Same.{IsSame}
 use Rattle.trie_image.proofs.Kept.{same_field}
 use Rattle.trie_image.proofs.Exits.{IsNode, path_nonzero}
 use Rattle.trie_image.proofs.Homes.{Home, root, tail, slot, leaf, content, node}
@@ -21,24 +19,17 @@ use Rattle.trie_image.proofs.HomeStores.{stored_field}
 use Rattle.trie_image.proofs.HomeChanges.{Publishes}
 use Rattle.trie_image.proofs.HomePublishes.{root_publishes, tail_publishes, slot_publishes, leaf_publishes, content_publishes, node_publishes}
 
+-- what a prefix cell asks of a pointer that is put in it: a node as its node, the key's new record as its content
+pub record ForCell (g : Ledger) (key : List ℕ) (new : ℕ) (q : List ℕ) (cell place p' : ℕ) : Type 0 where
+  pub at_node : owner g cell ≡ Some (PrefixCell q) → place ≡ 1 → IsNode p'
+  pub at_content : owner g cell ≡ Some (PrefixCell q) → place ≡ 0 → (q ≡ key) × (kind_at p' ≡ Some kind.Content) × (record_cell p' ≡ new)
+
 module _ (w w1 : List ℕ) (g g' : Ledger) (cells : ℕ) (ok : IsImage w g cells) (same : IsSame w w1 g) (ok1 : IsImage w1 g' cells) (grows : (c : ℕ) (o : Owner) → owner g c ≡ Some o → owner g' c ≡ Some o) (key : List ℕ) (new : ℕ) where
-  -- a field of a home is as it was
-  abbrev Kept : ℕ → ℕ → Type 0
-  Kept cell place = field w1 cell place ≡ field w cell place
-
-  -- what a prefix cell asks of a pointer that is put in it: a node as its node, the key's new record as its content
-  pub record ForCell (q : List ℕ) (cell place p' : ℕ) : Type 0 where
-    pub at_node : owner g cell ≡ Some (PrefixCell q) → place ≡ 1 → IsNode p'
-    pub at_content : owner g cell ≡ Some (PrefixCell q) → place ≡ 0 → (q ≡ key) × (kind_at p' ≡ Some kind.Content) × (record_cell p' ≡ new)
-
   module _ (q : List ℕ) (cell place p p' : ℕ) (at : HasPath g' p' q) (held : field w cell place ≡ p) where
     fits : p' < 2 ^ 32
     fits = path_small g' p' q ok1.head at
 
     -- with the field's old pointer
-    abbrev At : ℕ → Type 0
-    At x = Publishes w1 (stored_field w1 cell place p') g' cells x p' q key new
-
     as_held : field w1 cell place ≡ field w cell place → Publishes w1 (stored_field w1 cell place p') g' cells (field w1 cell place) p' q key new → Publishes w1 (stored_field w1 cell place p') g' cells p p' q key new
     as_held e h = subst (λ (x : ℕ). Publishes w1 (stored_field w1 cell place p') g' cells x p' q key new) (e ∙ held) h
 
@@ -73,7 +64,7 @@ module _ (w w1 : List ℕ) (g g' : Ledger) (cells : ℕ) (ok : IsImage w g cells
         (node_publishes w1 g' cells ok1 key new cell p' q (grows cell (PrefixCell q) own) fits at is (path_nonzero g' (field w1 cell 1) q cell_.node) (path_nonzero g' p' q at)))
 
     -- in any home
-    pub home_publishes : Home w g q cell place → ForCell q cell place p' → Publishes w1 (stored_field w1 cell place p') g' cells p p' q key new
+    pub home_publishes : Home w g q cell place → ForCell g key new q cell place p' → Publishes w1 (stored_field w1 cell place p') g' cells p p' q key new
     home_publishes (root z c i) asks = at_root c i z
     home_publishes (tail f) asks = at_tail f.from f.own f.is_place
     home_publishes (slot f) asks = at_slot f.byte f.before f.whole f.own f.slot
