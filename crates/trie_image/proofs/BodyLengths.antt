@@ -34,7 +34,7 @@ length_leaves : (w : List ℕ) (node b entry : ℕ) (bytes : List ℕ) (n : ℕ)
 unfolding leaf_words
 length_leaves w node b entry bytes n = omega (arith, length_eights (leaf_field w node b entry) (filter (has_leaf bytes) (range_with_len 0 n)), few_hits (λ b. b / 8) bytes 0 n)
 
-length_seven : (word b : ℕ) → length (seven word b) ≡ 7
+pub length_seven : (word b : ℕ) → length (seven word b) ≡ 7
 unfolding slot_bytes
 length_seven word b = refl
 

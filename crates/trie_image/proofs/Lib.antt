@@ -18,6 +18,8 @@ pub mod HomeStores
 pub mod HomeChanges
 pub mod HomePublishes
 pub mod HomeInner
+pub mod PutLedger
+pub mod PutHomes
 pub mod Opening
 pub mod Entries
 pub mod Nodes

@@ -21,7 +21,7 @@ Owns g c os = (j : ℕ) (o : Owner) → slice_get os j ≡ Some o → owner g (c
 abbrev pub AreCells : List ℕ → Ledger → ℕ → List Owner → Type 0
 AreCells w g c os = (j : ℕ) (o : Owner) → slice_get os j ≡ Some o → IsCell w g (c + j) o
 
-get_back : {A : Type 0} (l m : List A) (i : ℕ) (x : A) → slice_get m i ≡ Some x → slice_get (l ++ m) (length l + i) ≡ Some x
+pub get_back : {A : Type 0} (l m : List A) (i : ℕ) (x : A) → slice_get m i ≡ Some x → slice_get (l ++ m) (length l + i) ≡ Some x
 get_back [] m i x e = let z : 0 + i ≡ i = omega arith in subst (λ (k : ℕ). slice_get m k ≡ Some x) (sym z) e
 get_back (y ∷ ys) m i x e = let z : suc (length ys) + i ≡ suc (length ys + i) = omega arith in subst (λ (k : ℕ). slice_get (y ∷ ys ++ m) k ≡ Some x) (sym z) (get_back ys m i x e)
 

@@ -48,7 +48,7 @@ pub length_first_owners : (n : ℕ) (value start rest : List ℕ) → length (fi
 length_first_owners n value start rest = omega (arith, length-append (record_owners n (record_cells (length value))) (chain_owners (chain_cells (length rest)) start rest), length_range_owners n 0 (record_cells (length value)), length_chain_owners (chain_cells (length rest)) start rest)
 
 -- the new record and the chain of the rest
-module _ (g' : Ledger) (n used : ℕ) (put : Put) (start rest : List ℕ) (more : List Owner) (own : Owns g' used (first_owners n put.value start rest ++ more)) (there : slice_get g'.puts n ≡ Some put) (some_ : 1 ≤ used) (room : first_further used put.value rest + 64 ≤ 2 ^ 22) (whole : start ++ rest ≡ put.key) where
+module _ (g' : Ledger) (n used : ℕ) (put : Put) (start rest : List ℕ) (more : List Owner) (own : Owns g' used (first_owners n put.value start rest ++ more)) (there : slice_get g'.puts n ≡ Some put) (some_ : 1 ≤ used) (room : first_further used put.value rest ≤ 2 ^ 22) (whole : start ++ rest ≡ put.key) where
   own_first : Owns g' used (first_owners n put.value start rest)
   own_first = owns_front g' used (first_owners n put.value start rest) more own
 
