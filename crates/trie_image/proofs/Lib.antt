@@ -49,3 +49,4 @@ pub mod Mapped
 pub mod Places
 pub mod NewSplits
 pub mod WideOwners
+pub mod Whole
