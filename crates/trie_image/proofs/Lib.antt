@@ -50,3 +50,4 @@ pub mod Places
 pub mod NewSplits
 pub mod WideOwners
 pub mod Whole
+pub mod Left
