@@ -51,3 +51,4 @@ pub mod NewSplits
 pub mod WideOwners
 pub mod Whole
 pub mod Left
+pub mod Ready
