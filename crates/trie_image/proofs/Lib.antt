@@ -20,6 +20,8 @@ pub mod HomePublishes
 pub mod HomeInner
 pub mod PutLedger
 pub mod PutHomes
+pub mod SparseWords
+pub mod PutCases
 pub mod Opening
 pub mod Entries
 pub mod Nodes
