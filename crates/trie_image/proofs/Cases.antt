@@ -77,7 +77,7 @@ module _ (w w' : List ℕ) (used number : ℕ) (value rest : List ℕ) (e : Exit
       subst (λ (x : ℕ). Stands w' x more) at (stands_back w' used (record_cells (length value) + chain_cells (length rest)) (r ++ c) more long h)
 
 -- the new chain
-module _ (used : ℕ) (value rest : List ℕ) (low : 1 ≤ used) (room : first_further used value rest + 64 ≤ 2 ^ 22) where
+module _ (used : ℕ) (value rest : List ℕ) (low : 1 ≤ used) (room : first_further used value rest ≤ 2 ^ 22) where
   pub entry_small : entry_of used value rest < 2 ^ 32
   entry_small = ⊎_elim (λ (z : length rest ≡ 0). subst (λ (p : ℕ). p < 2 ^ 32) (sym (cond-true (length rest == 0) (content_of used) (32 * (used + record_cells (length value)) + (28 * chain_cells (length rest) - length rest)) (eq-eqb (length rest) 0 z))) (omega arith))
       (λ (ne : length rest ≢ 0). subst (λ (p : ℕ). p < 2 ^ 32) (sym (cond-false (length rest == 0) (content_of used) (32 * (used + record_cells (length value)) + (28 * chain_cells (length rest) - length rest)) (ne_eqb (length rest) 0 ne))) (omega arith)) (cases_eq (length rest) 0)

@@ -46,3 +46,9 @@ pub mod Lives
 pub mod Turned
 pub mod Seen
 pub mod Cases
+pub mod Prepared
+pub mod Mapped
+pub mod Places
+pub mod NewSplits
+pub mod WideOwners
+pub mod Whole

@@ -66,17 +66,17 @@ module _ (p : ℕ → Bool) where
   in_filter a (suc n) end j i l e = below_place (p a) a i end (filter p (range_with_len (a + 1) n)) j e (omega arith) (λ k. in_filter (a + 1) n end k i (omega arith))
 
 -- an element of a list that is sent through a function
-get_map : (f : ℕ → Owner) (xs : List ℕ) (j i : ℕ) → slice_get xs j ≡ Some i → slice_get (map f xs) j ≡ Some (f i)
+pub get_map : (f : ℕ → Owner) (xs : List ℕ) (j i : ℕ) → slice_get xs j ≡ Some i → slice_get (map f xs) j ≡ Some (f i)
 get_map f [] j i e = absurd (cc)
 get_map f (x ∷ xs) zero i e = let is : x ≡ i = cc in ap (λ (y : ℕ). Some (f y)) is
 get_map f (x ∷ xs) (suc j) i e = get_map f xs j i e
 
-map_get : (f : ℕ → Owner) (xs : List ℕ) (j : ℕ) (o : Owner) → slice_get (map f xs) j ≡ Some o → (i : ℕ) × (slice_get xs j ≡ Some i) × (f i ≡ o)
+pub map_get : (f : ℕ → Owner) (xs : List ℕ) (j : ℕ) (o : Owner) → slice_get (map f xs) j ≡ Some o → (i : ℕ) × (slice_get xs j ≡ Some i) × (f i ≡ o)
 map_get f [] j o e = absurd (cc)
 map_get f (x ∷ xs) zero o e = let is : f x ≡ o = cc in (x, refl, is)
 map_get f (x ∷ xs) (suc j) o e = map_get f xs j o e
 
-length_map : (f : ℕ → Owner) (xs : List ℕ) → length (map f xs) ≡ length xs
+pub length_map : (f : ℕ → Owner) (xs : List ℕ) → length (map f xs) ≡ length xs
 length_map f [] = refl
 length_map f (x ∷ xs) = ap (λ (n : ℕ). suc n) (length_map f xs)
 

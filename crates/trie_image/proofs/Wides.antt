@@ -18,7 +18,7 @@ or_true true = refl
 or_true false = refl
 
 -- a byte's leaf cell stands under its mid cell
-leaf_mid : (bytes : List ℕ) (k : ℕ) → has_leaf bytes k ≡ true → has_mid bytes (k / 8) ≡ true
+pub leaf_mid : (bytes : List ℕ) (k : ℕ) → has_leaf bytes k ≡ true → has_mid bytes (k / 8) ≡ true
 leaf_mid [] k e = absurd (cc)
 leaf_mid (c ∷ cs) k e = by (c / 8 == k) refl (λ h. leaf_mid cs k h) e
   where
@@ -41,7 +41,7 @@ has_old word b a s e = let i = slot_is word a s e in let is : get_or (seven word
 inner_none : (t : Bool) (c : ℕ) → t ≡ false → inner_pointer t c ≡ 0
 inner_none t c e = ap (λ (x : Bool). inner_pointer x c) e
 
-inner_some : (t : Bool) (c : ℕ) → t ≡ true → inner_pointer t c ≡ 32 * c + 28
+pub inner_some : (t : Bool) (c : ℕ) → t ≡ true → inner_pointer t c ≡ 32 * c + 28
 inner_some t c e = ap (λ (x : Bool). inner_pointer x c) e
 
 pub inner_fits : (t : Bool) (c : ℕ) → c < 2 ^ 26 → inner_pointer t c < 2 ^ 32
@@ -58,17 +58,17 @@ module _ (w0 w : List ℕ) (node b entry x : ℕ) (bytes : List ℕ) (h : Stands
   leaves_few k = few_below (has_leaf bytes) k
 
   -- the first mid cell is cell x + 1, the first leaf cell stands behind the mid cells
-  mid_cell : ℕ → ℕ
+  unfoldable pub mid_cell : ℕ → ℕ
   mid_cell i = x + 1 + mids_below bytes i
 
-  leaf_cell : ℕ → ℕ
+  unfoldable pub leaf_cell : ℕ → ℕ
   leaf_cell k = x + 1 + mids_below bytes 4 + leaves_below bytes k
 
-  top_is : (i : ℕ) → top_field bytes x i ≡ inner_pointer (has_mid bytes i) (mid_cell i)
+  pub top_is : (i : ℕ) → top_field bytes x i ≡ inner_pointer (has_mid bytes i) (mid_cell i)
   unfolding top_field mid_cell
   top_is i = refl
 
-  mid_is : (k : ℕ) → mid_field bytes x k ≡ inner_pointer (has_leaf bytes k) (leaf_cell k)
+  pub mid_is : (k : ℕ) → mid_field bytes x k ≡ inner_pointer (has_leaf bytes k) (leaf_cell k)
   unfolding mid_field leaf_cell
   mid_is k = refl
 
@@ -83,7 +83,7 @@ module _ (w0 w : List ℕ) (node b entry x : ℕ) (bytes : List ℕ) (h : Stands
   inner : Stands w x (top_words bytes x ++ mid_words bytes x 4)
   inner = stands_front w x (top_words bytes x ++ mid_words bytes x 4) (leaf_words w0 node b entry bytes 32) h
 
-  top_read : (i : ℕ) → i < 4 → field w x i ≡ top_field bytes x i
+  pub top_read : (i : ℕ) → i < 4 → field w x i ≡ top_field bytes x i
   top_read = let t : Stands w x (top_words bytes x) = stands_front w x (top_words bytes x) (mid_words bytes x 4) inner in by t
     where
       by : Stands w x (top_words bytes x) → (i : ℕ) → i < 4 → field w x i ≡ top_field bytes x i
@@ -100,7 +100,7 @@ module _ (w0 w : List ℕ) (node b entry x : ℕ) (bytes : List ℕ) (h : Stands
   unfolding mid_words mids_below mid_cell
   mid_stands i l e = one_of w (x + 1) (mid_field bytes x) (filter (has_mid bytes) (range_with_len 0 4)) (count_by (has_mid bytes) (range_with_len 0 i)) i mids_stand (at_rank (has_mid bytes) 4 i l e)
 
-  mid_read : (k : ℕ) → k < 32 → has_mid bytes (k / 8) ≡ true → field w (mid_cell (k / 8)) (k % 8) ≡ mid_field bytes x k
+  pub mid_read : (k : ℕ) → k < 32 → has_mid bytes (k / 8) ≡ true → field w (mid_cell (k / 8)) (k % 8) ≡ mid_field bytes x k
   mid_read k l e = let is : 8 * (k / 8) + k % 8 ≡ k = omega arith in eight_field w (mid_cell (k / 8)) (mid_field bytes x) (8 * (k / 8)) (k % 8) (mid_stands (k / 8) (omega arith) e) (omega arith) (λ i s. mid_small (8 * (k / 8) + i) (omega arith)) ∙ ap (λ (y : ℕ). mid_field bytes x y) is
 
   words_before : length (top_words bytes x ++ mid_words bytes x 4) ≡ 4 * (1 + mids_below bytes 4)
