@@ -10,7 +10,6 @@ pub mod Betters
 pub mod Relinked
 pub mod Grown
 pub mod Live
-pub mod Tails
 pub mod NewOwners
 pub mod NewFurther
 pub mod NewCases

@@ -1,8 +1,8 @@
 -- The map of the puts with one put more.
-use Rattle.std.proofs.Common.{◌≡◌, ◌≢◌, ◌⊎◌, ℕ, zero, suc, ◌+◌, ◌<◌, ◌≤◌, List, [], ◌∷◌, ◌++◌, length, slice_get, Option, Some, None, refl, sym, ap, ap₂, ◌∙◌, subst, inl, inr, ⊎_elim, arith}
+use Rattle.std.proofs.Common.{◌≡◌, ◌≢◌, ◌⊎◌, ℕ, zero, suc, ◌+◌, ◌<◌, List, [], ◌∷◌, ◌++◌, length, slice_get, Option, Some, None, refl, sym, ap, ap₂, ◌∙◌, inl, inr, ⊎_elim, arith}
 use Rattle.std.proofs.lemmas.Bool.{cases_eq}
 use Rattle.trie_image.specs.declared.Put.{Put}
-use Rattle.trie_image.specs.Puts.{IsLastPut, HasNoPut, MapsTo}
+use Rattle.trie_image.specs.Puts.{MapsTo}
 use Rattle.trie_image.proofs.Grown.{get_either}
 use Rattle.trie_image.proofs.Owners.{get_front}
 
