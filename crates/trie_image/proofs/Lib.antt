@@ -18,6 +18,7 @@ pub mod HomeChanges
 pub mod HomePublishes
 pub mod HomeInner
 pub mod PutLedger
+pub mod OwnerLengths
 pub mod PutHomes
 pub mod SparseWords
 pub mod PutCases

@@ -115,8 +115,8 @@ module _ (w w' : List ℕ) (g : Ledger) (cells : ℕ) (ok : IsImage w g cells) (
       let mid : IsMidCell w g (x / 32) c (b / 64) = ok.each (x / 32) (MidCell c (b / 64)) own_m in let own_l = mid.leaves (b / 8 % 8) (omega arith) ny in
       let nz : field w (y / 32) (b % 8) ≢ 0 = λ z. there (into ∙ (through_x ∙ (cond-false (y == 0) 0 (field w (y / 32) (b % 8)) (ne_eqb y 0 ny) ∙ z))) in
       let now : split_child w' c b ≡ field w' (y / 32) (b % 8) = cond-true (nat_lt b 256) (mid_child w' (field w' c (b / 64)) b) 0 (lt-ltb b 256 small)
-              ∙ (ap (λ (k : ℕ). mid_child w' k b) (tops c (b / 64) q top (omega arith) nx) ∙ (cond-false (x == 0) 0 (leaf_child w' (field w' (x / 32) (b / 8 % 8)) b) (ne_eqb x 0 nx)
-              ∙ (ap (λ (k : ℕ). leaf_child w' k b) (mids (x / 32) c (b / 64) (b / 8 % 8) own_m (omega arith) ny) ∙ cond-false (y == 0) 0 (field w' (y / 32) (b % 8)) (ne_eqb y 0 ny)))) in
+      ∙ (ap (λ (k : ℕ). mid_child w' k b) (tops c (b / 64) q top (omega arith) nx) ∙ (cond-false (x == 0) 0 (leaf_child w' (field w' (x / 32) (b / 8 % 8)) b) (ne_eqb x 0 nx)
+      ∙ (ap (λ (k : ℕ). leaf_child w' k b) (mids (x / 32) c (b / 64) (b / 8 % 8) own_m (omega arith) ny) ∙ cond-false (y == 0) 0 (field w' (y / 32) (b % 8)) (ne_eqb y 0 ny)))) in
       λ z. leaves (y / 32) c (b / 64) (b / 8 % 8) (b % 8) own_l (omega arith) nz (sym now ∙ z)
 
   pub splits_stand : HasSplitNodes w' (grown g own (put ∷ []))
