@@ -10,7 +10,6 @@ pub mod Betters
 pub mod Relinked
 pub mod Grown
 pub mod Live
-pub mod Tails
 pub mod NewOwners
 pub mod NewFurther
 pub mod NewCases
@@ -19,7 +18,10 @@ pub mod HomeChanges
 pub mod HomePublishes
 pub mod HomeInner
 pub mod PutLedger
+pub mod OwnerLengths
 pub mod PutHomes
+pub mod SparseWords
+pub mod PutCases
 pub mod Opening
 pub mod Entries
 pub mod Nodes

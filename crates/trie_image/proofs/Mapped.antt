@@ -1,8 +1,8 @@
 -- The map of the puts with one put more.
-use Rattle.std.proofs.Common.{◌≡◌, ◌≢◌, ◌⊎◌, ℕ, zero, suc, ◌+◌, ◌<◌, ◌≤◌, List, [], ◌∷◌, ◌++◌, length, slice_get, Option, Some, None, refl, sym, ap, ap₂, ◌∙◌, subst, inl, inr, ⊎_elim, arith}
+use Rattle.std.proofs.Common.{◌≡◌, ◌≢◌, ◌⊎◌, ℕ, zero, suc, ◌+◌, ◌<◌, List, [], ◌∷◌, ◌++◌, length, slice_get, Option, Some, None, refl, sym, ap, ap₂, ◌∙◌, inl, inr, ⊎_elim, arith}
 use Rattle.std.proofs.lemmas.Bool.{cases_eq}
 use Rattle.trie_image.specs.declared.Put.{Put}
-use Rattle.trie_image.specs.Puts.{IsLastPut, HasNoPut, MapsTo}
+use Rattle.trie_image.specs.Puts.{MapsTo}
 use Rattle.trie_image.proofs.Grown.{get_either}
 use Rattle.trie_image.proofs.Owners.{get_front}
 
@@ -33,16 +33,26 @@ module _ {A : Type 0} where
 
 module _ (puts : List Put) (put : Put) where
   pub maps_new : MapsTo (puts ++ put ∷ []) put.key (Some put.cell)
-  maps_new = (length puts, put, record {
-    is_there = get_new puts put;
-    same_key = refl;
-    last = λ m later l e. let o = old_or_new puts put later m e in absurd (⊎_elim (λ (t : slice_get puts m ≡ Some later). let k = inside_get puts m later t in omega arith) (λ (t : (m ≡ length puts) × (later ≡ put)). let z = t.0 in omega arith) o);
-  }, refl)
+  maps_new = (
+    length puts,
+    put,
+    record {
+      is_there = get_new puts put;
+      same_key = refl;
+      last = λ m later l e. let o = old_or_new puts put later m e in absurd (⊎_elim (λ (t : slice_get puts m ≡ Some later). let k = inside_get puts m later t in omega arith) (λ (t : (m ≡ length puts) × (later ≡ put)). let z = t.0 in omega arith) o);
+    },
+    refl,
+  )
 
   pub maps_old : (k : List ℕ) (o : Option ℕ) → (k ≡ put.key → ⊥) → MapsTo puts k o → MapsTo (puts ++ put ∷ []) k o
   maps_old k None ne h = λ m later e same. ⊎_elim (λ (t : slice_get puts m ≡ Some later). h m later t same) (λ (t : (m ≡ length puts) × (later ≡ put)). ne (sym same ∙ ap (λ (x : Put). x.key) t.1)) (old_or_new puts put later m e)
-  maps_old k (Some c) ne (n, old, is, cell) = (n, old, record {
-    is_there = get_front puts (put ∷ []) n old is.is_there;
-    same_key = is.same_key;
-    last = λ m later l e same. ⊎_elim (λ (t : slice_get puts m ≡ Some later). let g = is.last m later l t in g same) (λ (t : (m ≡ length puts) × (later ≡ put)). ne (sym same ∙ ap (λ (x : Put). x.key) t.1)) (old_or_new puts put later m e);
-  }, cell)
+  maps_old k (Some c) ne (n, old, is, cell) = (
+    n,
+    old,
+    record {
+      is_there = get_front puts (put ∷ []) n old is.is_there;
+      same_key = is.same_key;
+      last = λ m later l e same. ⊎_elim (λ (t : slice_get puts m ≡ Some later). let g = is.last m later l t in g same) (λ (t : (m ≡ length puts) × (later ≡ put)). ne (sym same ∙ ap (λ (x : Put). x.key) t.1)) (old_or_new puts put later m e);
+    },
+    cell,
+  )

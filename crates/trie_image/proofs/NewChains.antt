@@ -43,6 +43,9 @@ cell_alone w g c o h (suc j) x e = absurd (cc)
 pub owner_first : (g : Ledger) (c : ℕ) (o : Owner) (os : List Owner) → Owns g c (o ∷ os) → owner g c ≡ Some o
 owner_first g c o os h = let z : c + 0 ≡ c = omega arith in subst (λ (x : ℕ). owner g x ≡ Some o) z (h 0 o refl)
 
+pub owner_second : (g : Ledger) (c : ℕ) (o x : Owner) → Owns g c (o ∷ x ∷ []) → owner g (c + 1) ≡ Some x
+owner_second g c o x h = h 1 x refl
+
 -- the owners of the cells of a chain that takes the bytes after the path q
 abbrev pub chain_owners : ℕ → List ℕ → List ℕ → List Owner
 chain_owners zero q bytes = []

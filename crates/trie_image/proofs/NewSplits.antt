@@ -1,12 +1,10 @@
 -- The paths of a put's new cells lead towards its key, and its new split cells stand in their nodes.
-use Rattle.std.proofs.Common.{◌≡◌, ◌≢◌, ◌⊎◌, ℕ, zero, suc, ◌+◌, ◌-◌, ◌*◌, ◌/◌, ◌%◌, ◌<◌, ◌≤◌, ◌==◌, nat_lt, cond, List, [], ◌∷◌, ◌++◌, length, take, drop, map, slice_get, Option, Some, None, refl, sym, ap, ◌∙◌, subst, inl, inr, ⊎_elim, arith, append_assoc, append-nil, lt-ltb, eq-eqb, ne_eqb, length-append}
-use Rattle.std.proofs.lemmas.Bool.{cases_eq, cond_both, cond-true, cond-false}
+use Rattle.std.proofs.Common.{◌≡◌, ◌≢◌, ◌⊎◌, ℕ, zero, suc, ◌+◌, ◌-◌, ◌*◌, ◌/◌, ◌%◌, ◌<◌, ◌==◌, nat_lt, List, [], ◌∷◌, ◌++◌, length, take, drop, slice_get, Some, refl, sym, ap, ◌∙◌, subst, inl, inr, ⊎_elim, arith, append_assoc, append-nil, lt-ltb, eq-eqb, ne_eqb}
+use Rattle.std.proofs.lemmas.Bool.{cond_both, cond-true, cond-false}
 use Rattle.std.proofs.lemmas.List.{take-append-drop}
-use Rattle.std.specs.List.{range_with_len}
-use Rattle.cell_layout.specs.Pointers.{record_cell}
 use Rattle.trie_image.specs.declared.Put.{Put}
 use Rattle.trie_image.specs.declared.Owner.{Owner}
-use Rattle.trie_image.specs.declared.Owner.TheVariants.{HeadCell, RecordCell, ChainCell, SparseCell, TopCell, MidCell, LeafCell, PrefixCell}
+use Rattle.trie_image.specs.declared.Owner.TheVariants.{RecordCell, ChainCell, SparseCell, TopCell, MidCell, LeafCell, PrefixCell}
 use Rattle.trie_image.specs.declared.Ledger.{Ledger}
 use Rattle.trie_image.specs.declared.exit.Stand.{Stand}
 use Rattle.trie_image.specs.Image.{field, leaf_child, mid_child, split_child}
@@ -15,7 +13,7 @@ use Rattle.trie_image.specs.Cell.{record_cells, IsTopCell, IsMidCell, IsImage}
 use Rattle.trie_image.specs.WellFormed.{HasSplitNodes}
 use Rattle.trie_image.specs.Body.{chain_cells}
 use Rattle.trie_image.proofs.Grown.{get_either}
-use Rattle.trie_image.proofs.Owners.{get_front, grown, path_grown}
+use Rattle.trie_image.proofs.Owners.{get_front, grown}
 use Rattle.trie_image.proofs.NewChains.{chain_owners}
 use Rattle.trie_image.proofs.NewCells.{record_owners, get_mapped}
 use Rattle.trie_image.proofs.NewOwners.{passed_owners, first_owners}
@@ -117,8 +115,8 @@ module _ (w w' : List ℕ) (g : Ledger) (cells : ℕ) (ok : IsImage w g cells) (
       let mid : IsMidCell w g (x / 32) c (b / 64) = ok.each (x / 32) (MidCell c (b / 64)) own_m in let own_l = mid.leaves (b / 8 % 8) (omega arith) ny in
       let nz : field w (y / 32) (b % 8) ≢ 0 = λ z. there (into ∙ (through_x ∙ (cond-false (y == 0) 0 (field w (y / 32) (b % 8)) (ne_eqb y 0 ny) ∙ z))) in
       let now : split_child w' c b ≡ field w' (y / 32) (b % 8) = cond-true (nat_lt b 256) (mid_child w' (field w' c (b / 64)) b) 0 (lt-ltb b 256 small)
-              ∙ (ap (λ (k : ℕ). mid_child w' k b) (tops c (b / 64) q top (omega arith) nx) ∙ (cond-false (x == 0) 0 (leaf_child w' (field w' (x / 32) (b / 8 % 8)) b) (ne_eqb x 0 nx)
-              ∙ (ap (λ (k : ℕ). leaf_child w' k b) (mids (x / 32) c (b / 64) (b / 8 % 8) own_m (omega arith) ny) ∙ cond-false (y == 0) 0 (field w' (y / 32) (b % 8)) (ne_eqb y 0 ny)))) in
+      ∙ (ap (λ (k : ℕ). mid_child w' k b) (tops c (b / 64) q top (omega arith) nx) ∙ (cond-false (x == 0) 0 (leaf_child w' (field w' (x / 32) (b / 8 % 8)) b) (ne_eqb x 0 nx)
+      ∙ (ap (λ (k : ℕ). leaf_child w' k b) (mids (x / 32) c (b / 64) (b / 8 % 8) own_m (omega arith) ny) ∙ cond-false (y == 0) 0 (field w' (y / 32) (b % 8)) (ne_eqb y 0 ny)))) in
       λ z. leaves (y / 32) c (b / 64) (b / 8 % 8) (b % 8) own_l (omega arith) nz (sym now ∙ z)
 
   pub splits_stand : HasSplitNodes w' (grown g own (put ∷ []))

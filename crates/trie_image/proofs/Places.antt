@@ -1,5 +1,5 @@
 -- After a Publish each place of a walk is one of the new image, and sees what it saw or, for the put's key, the new record.
-use Rattle.std.proofs.Common.{◌≡◌, ◌≢◌, ◌⊎◌, ℕ, zero, suc, ◌+◌, ◌*◌, ◌/◌, ◌%◌, ◌^◌, ◌<◌, ◌≤◌, ◌==◌, nat_lt, List, [], ◌∷◌, ◌++◌, length, take, drop, slice_get, Option, Some, None, refl, sym, ap, ◌∙◌, subst, inl, inr, ⊎_elim, arith, lt-ltb, ne_eqb, take_all}
+use Rattle.std.proofs.Common.{◌≡◌, ◌≢◌, ◌⊎◌, ℕ, zero, suc, ◌+◌, ◌*◌, ◌/◌, ◌%◌, ◌<◌, ◌==◌, nat_lt, List, [], ◌∷◌, ◌++◌, take, drop, slice_get, Option, Some, refl, sym, ap, ◌∙◌, subst, inl, inr, ⊎_elim, arith, lt-ltb, ne_eqb, take_all}
 use Rattle.std.proofs.lemmas.Bool.{cond-true, cond-false}
 use Rattle.std.proofs.lemmas.List.{take-append-drop}
 use Rattle.cell_layout.specs.declared.Kind.{Kind}
@@ -84,14 +84,16 @@ module _ (w w' : List ℕ) (g g' : Ledger) (cells : ℕ) (ok : IsImage w g cells
   place_law k bytes p part taken Top (at, is, next) = ((grows p (take taken k) at, is, next), at_pointer k taken p at)
   place_law k bytes p part taken Slot (b, at, is, next, slot) = let slot' = slots (p / 32) b part (take taken k) (sparse_of g p (take taken k) at is) slot in
       ((b, grows p (take taken k) at, is, next, slot'), through k (sees (reading w) p (drop taken k)) (sees (reading w') p (drop taken k)) _ _ (slot_sees w g cells ok split k taken p part b is next slot) (slot_sees w' g' cells ok' split' k taken p part b is next slot') (at_pointer k taken p at))
-  place_law k bytes p part taken Mid (t, own, top, next) = let small = bytes taken part next in
-      ((t, keeps (p / 32) (MidCell t (part / 64)) own, keeps t (TopCell (take taken k)) top, next),
-      through k (sees (reading w) (32 * t + 28) (drop taken k)) (sees (reading w') (32 * t + 28) (drop taken k)) _ _ (mid_sees w g cells ok split k taken t part (take taken k) top small (p / 32) own next)
-      (mid_sees w' g' cells ok' split' k taken t part (take taken k) (keeps t (TopCell (take taken k)) top) small (p / 32) (keeps (p / 32) (MidCell t (part / 64)) own) next) (at_pointer k taken (32 * t + 28) (top_path w g cells ok split k taken t part (take taken k) top small)))
-  place_law k bytes p part taken Leaf (t, own, top, next) = let small = bytes taken part next in let i : ℕ = part / 64 in let j : ℕ = part / 8 % 8 in
-      ((t, keeps (p / 32) (LeafCell t i j) own, keeps t (TopCell (take taken k)) top, next),
-      through k (sees (reading w) (32 * t + 28) (drop taken k)) (sees (reading w') (32 * t + 28) (drop taken k)) _ _ (leaf_sees w g cells ok split k taken t part (take taken k) top small (p / 32) own next)
-      (leaf_sees w' g' cells ok' split' k taken t part (take taken k) (keeps t (TopCell (take taken k)) top) small (p / 32) (keeps (p / 32) (LeafCell t i j) own) next) (at_pointer k taken (32 * t + 28) (top_path w g cells ok split k taken t part (take taken k) top small)))
+  place_law k bytes p part taken Mid (t, own, top, next) = let small = bytes taken part next in (
+    (t, keeps (p / 32) (MidCell t (part / 64)) own, keeps t (TopCell (take taken k)) top, next),
+    through k (sees (reading w) (32 * t + 28) (drop taken k)) (sees (reading w') (32 * t + 28) (drop taken k)) _ _ (mid_sees w g cells ok split k taken t part (take taken k) top small (p / 32) own next)
+        (mid_sees w' g' cells ok' split' k taken t part (take taken k) (keeps t (TopCell (take taken k)) top) small (p / 32) (keeps (p / 32) (MidCell t (part / 64)) own) next) (at_pointer k taken (32 * t + 28) (top_path w g cells ok split k taken t part (take taken k) top small)),
+  )
+  place_law k bytes p part taken Leaf (t, own, top, next) = let small = bytes taken part next in let i : ℕ = part / 64 in let j : ℕ = part / 8 % 8 in (
+    (t, keeps (p / 32) (LeafCell t i j) own, keeps t (TopCell (take taken k)) top, next),
+    through k (sees (reading w) (32 * t + 28) (drop taken k)) (sees (reading w') (32 * t + 28) (drop taken k)) _ _ (leaf_sees w g cells ok split k taken t part (take taken k) top small (p / 32) own next)
+        (leaf_sees w' g' cells ok' split' k taken t part (take taken k) (keeps t (TopCell (take taken k)) top) small (p / 32) (keeps (p / 32) (LeafCell t i j) own) next) (at_pointer k taken (32 * t + 28) (top_path w g cells ok split k taken t part (take taken k) top small)),
+  )
 
   pub places : (k : List ℕ) (pl : Place) → IsPlace w g k pl → IsPlace w' g' k pl × SameOrNew k (place_sees w k pl) (place_sees w' k pl)
   places k pl h = let l = place_law k h.bytes pl.ptr pl.part pl.taken pl.role h.role in (record { bytes = h.bytes; role = l.0 }, l.1)

@@ -1,5 +1,5 @@
 -- The stores before the publishing one change nothing that a pointer with a path reads.
-use Rattle.std.proofs.Common.{◌≡◌, ◌≢◌, ◌⊎◌, ℕ, zero, suc, ◌+◌, ◌*◌, ◌/◌, ◌%◌, ◌^◌, ◌<◌, ◌≤◌, ◌==◌, false, List, [], ◌∷◌, ◌++◌, length, set, take, slice_index, Some, None, refl, sym, ap, ◌∙◌, subst, arith, length-set}
+use Rattle.std.proofs.Common.{◌≡◌, ℕ, zero, suc, ◌+◌, ◌*◌, ◌/◌, ◌%◌, ◌^◌, ◌<◌, ◌≤◌, ◌==◌, false, List, [], ◌∷◌, length, set, take, slice_index, Some, refl, ap, ◌∙◌, arith}
 use Rattle.cell_layout.specs.Words.{half_of, with_half_of}
 use Rattle.cell_layout.specs.Slots.{slot_at, child_count}
 use Rattle.cell_layout.proofs.Added.{slot_is}
@@ -8,10 +8,10 @@ use Rattle.trie_image.specs.declared.Owner.TheVariants.{HeadCell, RecordCell, Ch
 use Rattle.trie_image.specs.declared.Ledger.{Ledger}
 use Rattle.trie_image.specs.declared.StoreKind.TheVariants.{Prepare}
 use Rattle.trie_image.specs.declared.WordStore.{WordStore}
-use Rattle.trie_image.specs.Image.{word_of, field, root_of}
+use Rattle.trie_image.specs.Image.{word_of}
 use Rattle.trie_image.specs.Paths.{owner}
 use Rattle.trie_image.specs.Cell.{IsImage}
-use Rattle.trie_image.specs.Same.{SameWords, SameCell, IsSame}
+use Rattle.trie_image.specs.Same.{SameCell, IsSame}
 use Rattle.trie_image.specs.Stores.{store_at, prepares}
 use Rattle.trie_image.specs.After.{after}
 use Rattle.trie_image.proofs.Kept.{own_inside, same_cell, free_slot}

@@ -31,7 +31,7 @@ use Rattle.trie_image.proofs.NewOwners.{passed_owners, further_owners, first_own
 abbrev pub ledger_after : Ledger → ℕ → List ℕ → List ℕ → List ℕ → List ℕ → List Owner → Ledger
 ledger_after g used key value start rest more = grown g (first_owners (length g.puts) value start rest ++ more) (record { key = key; value = value; cell = used } ∷ [])
 
-length_sent : (f : ℕ → Owner) (xs : List ℕ) → length (map f xs) ≡ length xs
+pub length_sent : (f : ℕ → Owner) (xs : List ℕ) → length (map f xs) ≡ length xs
 length_sent f [] = refl
 length_sent f (x ∷ xs) = ap (λ (n : ℕ). suc n) (length_sent f xs)
 

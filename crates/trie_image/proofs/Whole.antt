@@ -1,17 +1,17 @@
 -- The image after a put's publishing store is well formed, with the put added to the puts.
-use Rattle.std.proofs.Common.{◌≡◌, ◌≢◌, ◌⊎◌, ℕ, ◌+◌, ◌<◌, ◌≤◌, List, [], ◌∷◌, ◌++◌, length, slice_get, Option, Some, None, refl, sym, ap, ◌∙◌, subst, inl, inr, ⊎_elim}
+use Rattle.std.proofs.Common.{◌≡◌, ◌≢◌, ◌⊎◌, ℕ, ◌+◌, ◌<◌, ◌≤◌, List, [], ◌∷◌, ◌++◌, length, slice_get, Option, Some, refl, sym, ap, ◌∙◌, subst, inl, inr, ⊎_elim}
 use Rattle.std.proofs.lemmas.Bool.{cases_eq}
 use Rattle.cell_layout.specs.Pointers.{kind_at}
 use Rattle.cell_layout.specs.Slots.{slot_at}
 use Rattle.trie_image.specs.declared.Put.{Put}
 use Rattle.trie_image.specs.declared.Place.{Place}
 use Rattle.trie_image.specs.declared.Owner.{Owner}
-use Rattle.trie_image.specs.declared.Owner.TheVariants.{HeadCell, RecordCell, SparseCell, TopCell, MidCell, LeafCell}
+use Rattle.trie_image.specs.declared.Owner.TheVariants.{RecordCell, SparseCell, TopCell, MidCell, LeafCell}
 use Rattle.trie_image.specs.declared.Ledger.{Ledger}
 use Rattle.trie_image.specs.Reading.{sees, sees_from, Better, Changes}
 use Rattle.trie_image.specs.Image.{word_of, field, child_of, record_of, reading, root_of}
 use Rattle.trie_image.specs.Paths.{owner, HasPath}
-use Rattle.trie_image.specs.Cell.{record_cells, IsImage}
+use Rattle.trie_image.specs.Cell.{record_cells}
 use Rattle.trie_image.specs.Puts.{MapsTo}
 use Rattle.trie_image.specs.WellFormed.{HasRecords, HasSplitNodes, IsWellFormed}
 use Rattle.trie_image.specs.Same.{IsSame}

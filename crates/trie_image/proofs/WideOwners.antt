@@ -1,5 +1,5 @@
 -- The cells of a new split node stand in it.
-use Rattle.std.proofs.Common.{◌≡◌, ◌≢◌, ℕ, zero, suc, ◌+◌, ◌-◌, ◌*◌, ◌/◌, ◌%◌, ◌^◌, ◌<◌, ◌≤◌, Bool, true, false, cond, List, [], ◌∷◌, ◌++◌, length, filter, count_by, map, slice_get, Some, None, refl, sym, ap, ap₂, ◌∙◌, subst, arith}
+use Rattle.std.proofs.Common.{◌≡◌, ◌≢◌, ℕ, zero, suc, ◌+◌, ◌*◌, ◌/◌, ◌%◌, ◌^◌, ◌<◌, Bool, true, false, cond, List, [], ◌∷◌, ◌++◌, length, filter, count_by, slice_get, Some, refl, sym, ap, ◌∙◌, subst, arith}
 use Rattle.std.proofs.lemmas.List.Sums.{length-filter}
 use Rattle.std.specs.List.{range_with_len}
 use Rattle.trie_image.specs.declared.Owner.{Owner}
@@ -7,7 +7,7 @@ use Rattle.trie_image.specs.declared.Owner.TheVariants.{TopCell, MidCell, LeafCe
 use Rattle.trie_image.specs.declared.Ledger.{Ledger}
 use Rattle.trie_image.specs.Image.{field, split_child}
 use Rattle.trie_image.specs.Paths.{owner}
-use Rattle.trie_image.specs.Body.{has_mid, has_leaf, mids_below, leaves_below, top_field, mid_field, leaf_field, top_words, mid_words, leaf_words}
+use Rattle.trie_image.specs.Body.{has_mid, has_leaf, mids_below, leaves_below, leaf_field, top_words, mid_words, leaf_words}
 use Rattle.trie_image.proofs.CellWords.{Stands}
 use Rattle.trie_image.proofs.NewChains.{Owns, owns_front, owns_back, owner_first}
 use Rattle.trie_image.proofs.NewWide.{at_rank, get_map, map_get, length_map, mid_owners, leaf_owners, wide_owners}
