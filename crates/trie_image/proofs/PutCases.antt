@@ -43,14 +43,14 @@ pub bytes_after : (path rest key : List ℕ) → path ++ rest ≡ key → AreByt
 bytes_after path rest key e h k = subst (λ (x : ℕ). x < 256) (sym (sym (get_or-append-add path rest k 0) ∙ ap (λ (l : List ℕ). slice_index l (length path + k)) e)) (h (length path + k))
 
 -- a node's pointer behind passed bytes
-over_node : (s : Stand) (x off : ℕ) → IsNode (32 * x + off) → s.entered ≤ s.at → x + 64 < 2 ^ 26 → IsNode (over_passed s x off)
+pub over_node : (s : Stand) (x off : ℕ) → IsNode (32 * x + off) → s.entered ≤ s.at → x + 64 < 2 ^ 26 → IsNode (over_passed s x off)
 over_node s x off is le low = by (s.at == s.entered) refl
   where
     by : (t : Bool) → (s.at == s.entered) ≡ t → IsNode (cond t (32 * x + off) (32 * (x + 1) + (28 - (s.at - s.entered))))
     by true e = is
     by false e = let ne = eqb-false s.at s.entered e in let o : (32 * (x + 1) + (28 - (s.at - s.entered))) % 32 ≤ 27 = omega arith in inl (is_chain (32 * (x + 1) + (28 - (s.at - s.entered))) (λ z. omega arith) (omega arith) o)
 
-over_chain : (s : Stand) (x off : ℕ) → s.at ≢ s.entered → s.entered ≤ s.at → x + 64 < 2 ^ 26 → IsNode (over_passed s x off)
+pub over_chain : (s : Stand) (x off : ℕ) → s.at ≢ s.entered → s.entered ≤ s.at → x + 64 < 2 ^ 26 → IsNode (over_passed s x off)
 over_chain s x off ne le low = by (s.at == s.entered) refl
   where
     by : (t : Bool) → (s.at == s.entered) ≡ t → IsNode (cond t (32 * x + off) (32 * (x + 1) + (28 - (s.at - s.entered))))
