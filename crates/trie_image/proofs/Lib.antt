@@ -52,3 +52,5 @@ pub mod Places
 pub mod NewSplits
 pub mod WideOwners
 pub mod Whole
+pub mod Left
+pub mod Ready

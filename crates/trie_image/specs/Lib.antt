@@ -12,3 +12,4 @@ pub mod Body
 pub mod Stores
 pub mod After
 pub mod Laws
+pub mod Publish
