@@ -59,7 +59,7 @@ module _ (w : List ℕ) (g : Ledger) (cells : ℕ) (ok : IsImage w g cells) (s :
 
   still_chain : s.at ≢ s.entered → IsNode s.at → kind_at s.at ≡ Some kind.Chain
   still_chain ne (inl k) = k
-  still_chain ne (inr (inl k)) = let o = sparse_of g s.at path at_path k in let same = same_cell in
+  still_chain ne (inr (inl k)) = let o = sparse_of g s.at path at_path k in  
       absurd (ne (sym (sparse_alone g s.entered s.at q path (there (SparseCell path) o (λ x. cc)) (sym same_cell) k (subst (λ (c : ℕ). owner g c ≡ Some (SparseCell path)) same_cell o))))
   still_chain ne (inr (inr k)) = let o = wide_of g s.at path at_path k in
       absurd (ne (sym (wide_alone g s.entered s.at q path (there (TopCell path) o (λ x. cc)) (sym same_cell) k (subst (λ (c : ℕ). owner g c ≡ Some (TopCell path)) same_cell o))))
@@ -111,7 +111,7 @@ module _ (w : List ℕ) (g : Ledger) (cells : ℕ) (ok : IsImage w g cells) (s :
       where
         by : (t : Bool) → (s.at == s.entered) ≡ t → Owns g' (x + 1) (cond t [] (ChainCell (28 - (s.at - s.entered)) path ∷ [])) → HasPath g' (cond t (32 * x + off) (32 * (x + 1) + (28 - (s.at - s.entered)))) q
         by true e h = subst (HasPath g' (32 * x + off)) (none_passed (eqb-true s.at s.entered e)) at
-        by false e h = let p : IsPassed = is_passed (eqb-false s.at s.entered e) node in let l : s.entered < s.at = p.later in let i : s.at % 32 ≤ 27 = p.inside in let y : ℕ = 32 * (x + 1) + (28 - (s.at - s.entered)) in
+        by false e h = let p : IsPassed = is_passed (eqb-false s.at s.entered e) node in let l : s.entered < s.at = p.later in let i : s.at % 32 ≤ 27 = p.inside in
             let few : s.at - s.entered ≤ 27 = omega arith in
             let cell : (32 * (x + 1) + (28 - (s.at - s.entered))) / 32 ≡ x + 1 = omega arith in let o : (32 * (x + 1) + (28 - (s.at - s.entered))) % 32 ≡ 28 - (s.at - s.entered) = omega arith in
             at_chain (28 - (s.at - s.entered)) path (is_chain (32 * (x + 1) + (28 - (s.at - s.entered))) (λ z. omega arith) (omega arith) (omega (arith, o)))

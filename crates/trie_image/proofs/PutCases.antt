@@ -101,7 +101,7 @@ module _ (w w1 : List ℕ) (g : Ledger) (cells used : ℕ) (key value : List ℕ
 
   pub past_put : (b t : ℕ) (m : MetPastContent w g key s taken) → Stands w1 used (body_words w used (slice_index w 0 + 1) value (m.byte ∷ m.rest) (exit_with PastContent s taken) b)
       → Publishes w1 (stored_field w1 s.cell s.field (32 * first_further used value (m.byte ∷ m.rest) + 31)) (ledger_after g used key value m.path (m.byte ∷ m.rest) (PrefixCell m.path ∷ [])) cells s.entered (32 * first_further used value (m.byte ∷ m.rest) + 31) m.path key used
-  past_put b t m h = let rest : List ℕ = m.byte ∷ m.rest in let x : ℕ = first_further used value (m.byte ∷ m.rest) in let d = ready PastContent m.path (m.byte ∷ m.rest) m.path b t m.whole h in let st = m.stands in
+  past_put b t m h = let d = ready PastContent m.path (m.byte ∷ m.rest) m.path b t m.whole h in let st = m.stands in
       let here : s.at ≢ 0 = λ z. let l = content_above s.at m.is_content in omega arith in
       let new = past_content w w1 g (ledger_after g used key value m.path (m.byte ∷ m.rest) (PrefixCell m.path ∷ [])) cells ok d.grows d.keeps (first_further used value (m.byte ∷ m.rest)) (content_of used) (entry_of used value (m.byte ∷ m.rest)) d.near d.low s.at m.path (st.at_path here) m.is_content d.at_entry
       (d.is_chain (λ z. cc)) d.owned (further_stands w w1 used (slice_index w 0 + 1) value (m.byte ∷ m.rest) (exit_with PastContent s taken) b h) in
@@ -110,7 +110,7 @@ module _ (w w1 : List ℕ) (g : Ledger) (cells used : ℕ) (key value : List ℕ
 
   pub end_put : (b t : ℕ) (m : MetEnd w g key s) → Stands w1 used (body_words w used (slice_index w 0 + 1) value [] (exit_with End s taken) b)
       → Publishes w1 (stored_field w1 s.cell s.field (over_passed s (first_further used value []) 31)) (ledger_after g used key value key [] (further_owners w End s key b t (first_further used value []))) cells s.entered (over_passed s (first_further used value []) 31) m.home_path key used
-  end_put b t m h = let x : ℕ = first_further used value [] in let more : List Owner = further_owners w End s key b t (first_further used value []) in let d = ready End key [] key b t (append-nil key) h in let st = m.stands in let below = node_below s.at m.is_node in
+  end_put b t m h = let d = ready End key [] key b t (append-nil key) h in let st = m.stands in let below = node_below s.at m.is_node in
       let new = key_end w w1 g (ledger_after g used key value key [] (further_owners w End s key b t (first_further used value []))) cells ok d.grows d.keeps (first_further used value []) (content_of used) (entry_of used value []) d.near d.low s m.home_path m.inside key st.entered (st.at_path (node_nonzero s.at m.is_node)) st.forward st.offset st.passed
       m.is_node d.at_content (content_kind [] used (omega (arith, d.few))) d.owned (further_stands w w1 used (slice_index w 0 + 1) value [] (exit_with End s taken) b h) in
       let later : s.entered ≤ s.at = omega (arith, st.forward) in let bare = m.bare in
@@ -148,7 +148,7 @@ module _ (w w1 : List ℕ) (g : Ledger) (cells used : ℕ) (key value : List ℕ
 
   pub leaf_put : (m : MetNoLeaf w g key s taken) → Stands w1 used (body_words w used (slice_index w 0 + 1) value m.rest (exit_with NoLeaf s taken) m.byte)
       → Publishes w1 (stored_field w1 s.cell s.field (32 * first_further used value m.rest + 28)) (ledger_after g used key value (m.path ++ m.byte ∷ []) m.rest (further_owners w NoLeaf s m.path m.byte m.top (first_further used value m.rest))) cells 0 (entry_of used value m.rest) (m.path ++ m.byte ∷ []) key used
-  leaf_put m h = let whole : (m.path ++ m.byte ∷ []) ++ m.rest ≡ key = append_assoc m.path (m.byte ∷ []) m.rest ∙ m.whole in let b : ℕ = m.byte in let x : ℕ = first_further used value m.rest in let sp = m.split in let mid = m.mid in
+  leaf_put m h = let whole : (m.path ++ m.byte ∷ []) ++ m.rest ≡ key = append_assoc m.path (m.byte ∷ []) m.rest ∙ m.whole in let sp = m.split in let mid = m.mid in
       let d = ready NoLeaf (m.path ++ m.byte ∷ []) m.rest m.path m.byte m.top whole h in let small : m.byte < 256 = sp.small in
       let words : Stands w1 (first_further used value m.rest) (lone_words (m.byte % 8) (entry_of used value m.rest)) = further_stands w w1 used (slice_index w 0 + 1) value m.rest (exit_with NoLeaf s taken) m.byte h in
       let new = no_leaf w w1 g (ledger_after g used key value (m.path ++ m.byte ∷ []) m.rest (further_owners w NoLeaf s m.path m.byte m.top (first_further used value m.rest))) cells ok d.grows d.keeps (first_further used value m.rest) (content_of used) (entry_of used value m.rest) d.near d.low m.top m.byte m.path small sp.own d.at_entry d.owned words in
@@ -161,7 +161,7 @@ module _ (w w1 : List ℕ) (g : Ledger) (cells used : ℕ) (key value : List ℕ
 
   pub mid_put : (t : ℕ) (m : MetNoMid w g key s taken) → Stands w1 used (body_words w used (slice_index w 0 + 1) value m.rest (exit_with NoMid s taken) m.byte)
       → Publishes w1 (stored_field w1 s.cell s.field (32 * first_further used value m.rest + 28)) (ledger_after g used key value (m.path ++ m.byte ∷ []) m.rest (further_owners w NoMid s m.path m.byte t (first_further used value m.rest))) cells 0 (entry_of used value m.rest) (m.path ++ m.byte ∷ []) key used
-  mid_put t m h = let whole : (m.path ++ m.byte ∷ []) ++ m.rest ≡ key = append_assoc m.path (m.byte ∷ []) m.rest ∙ m.whole in let x : ℕ = first_further used value m.rest in let sp = m.split in
+  mid_put t m h = let whole : (m.path ++ m.byte ∷ []) ++ m.rest ≡ key = append_assoc m.path (m.byte ∷ []) m.rest ∙ m.whole in let sp = m.split in
       let d = ready NoMid (m.path ++ m.byte ∷ []) m.rest m.path m.byte t whole h in let small : m.byte < 256 = sp.small in
       let mids : List ℕ = lone_words (m.byte / 8 % 8) (32 * (first_further used value m.rest + 1) + 28) in let leaves : List ℕ = lone_words (m.byte % 8) (entry_of used value m.rest) in
       let words : Stands w1 (first_further used value m.rest) (lone_words (m.byte / 8 % 8) (32 * (first_further used value m.rest + 1) + 28) ++ lone_words (m.byte % 8) (entry_of used value m.rest)) = further_stands w w1 used (slice_index w 0 + 1) value m.rest (exit_with NoMid s taken) m.byte h in
