@@ -45,7 +45,7 @@ use Rattle.trie_image.proofs.Seen.{ForPrefix, by_home, by_byte}
 use Rattle.trie_image.proofs.Whole.{Leaves, IsRecorded, changes_old, law, roots, well_formed, places_kept}
 use Rattle.trie_image.proofs.Left.{home_leaves, home_root, home_owner, leaves_by}
 use Rattle.trie_image.proofs.Ready.{ready, first_cell, few, further_near, same, stands, turned, stands_after, owned_record}
-use Rattle.trie_image.proofs.PutCases.{content_put, nothing_put, other_put, end_put, full_put, leaf_put, mid_put, past_put, bytes_after, over_node, over_chain}
+use Rattle.trie_image.proofs.PutCases.{content_put, nothing_put, other_put, end_put, full_put, leaf_put, mid_put, past_put, bytes_after, over_node}
 
 -- the new child of a split node made from a sparse one
 new_leaf : (w : List ℕ) (c b entry : ℕ) → leaf_field w c b entry b ≡ entry
@@ -191,7 +191,7 @@ module _ (w : List ℕ) (g : Ledger) (cells : ℕ) (key value : List ℕ) (wf : 
   other_published s taken m = let st = m.stands in let b : ℕ = m.byte in let rest : List ℕ = m.rest in let start : List ℕ = m.path ++ m.byte ∷ [] in let x : ℕ = first_further (length g.owners) value m.rest in let p' : ℕ = over_passed s (first_further (length g.owners) value m.rest) 30 in
       let l = home_inside m.home_path s.cell s.field st.home in let whole : (m.path ++ m.byte ∷ []) ++ m.rest ≡ key = append_assoc m.path (m.byte ∷ []) m.rest ∙ m.whole in
       let low_ = low OtherByte s taken start rest b whole in let near_ = near OtherByte s taken start rest b whole in let few_ = small_used OtherByte s taken start rest b whole in let later : s.entered ≤ s.at = omega (arith, st.forward) in
-      let is_node : IsNode (over_passed s (first_further (length g.owners) value m.rest) 30) = over_node s (first_further (length g.owners) value m.rest) 30 (inr (inl (offset_kind (32 * x + 30) x 30 refl (omega (arith, low_)) (omega (arith, near_)) (omega arith)))) later (omega (arith, near_)) in
+      let is_node : IsNode (over_passed s (first_further (length g.owners) value m.rest) 30) = over_node s (first_further (length g.owners) value m.rest) 30 (λ z. inr (inl (offset_kind (32 * x + 30) x 30 refl (omega (arith, low_)) (omega (arith, near_)) (omega arith)))) later (omega (arith, near_)) in
       let fits : over_passed s (first_further (length g.owners) value m.rest) 30 < 2 ^ 32 = let n = node_low p' is_node in omega arith in let small_b : m.byte < 256 = bytes_after m.path (m.byte ∷ m.rest) key m.whole bytes 0 in
       let w1 : List ℕ = prepared OtherByte s taken m.rest m.byte in let w' : List ℕ = stored_field w1 s.cell s.field p' in
       let t = turns OtherByte s taken start rest b whole s.cell s.field p' l.0 l.1 fits in let reads = reads_now OtherByte s taken start rest b whole s.cell s.field p' l.0 l.1 fits in let more_stands = further_now OtherByte s taken start rest b whole s.cell s.field p' l.0 l.1 fits in
@@ -215,7 +215,7 @@ module _ (w : List ℕ) (g : Ledger) (cells : ℕ) (key value : List ℕ) (wf : 
       home_published End s taken key [] b more m.home_path m.inside key m.inside p' whole st there.0 there.1
       (end_put w w1 g cells (length g.owners) key value wf.image (same_ready End s taken key [] b whole) refl counted room bytes s taken b 0 m (ready_stands End s taken key [] b whole)) (sym st.passed)
       (end_better w w' g cells wf.image s p' t (length g.owners) x 0 (omega (arith, low_)) (omega (arith, near_)) few_ (omega arith) key m more_stands)
-      (λ f e. (over_chain s x 31 (moved f) later (omega (arith, near_)), λ z. let n = moved f in n (st.forward ∙ (ap (λ (k : List ℕ). s.entered + length k) z ∙ (let y : s.entered + 0 ≡ s.entered = omega arith in y)))))
+      (λ f e. (over_node s x 31 (λ z. absurd (let n = moved f in n z)) later (omega (arith, near_)), λ z. let n = moved f in n (st.forward ∙ (ap (λ (k : List ℕ). s.entered + length k) z ∙ (let y : s.entered + 0 ≡ s.entered = omega arith in y)))))
       (λ f e. absurd (below_node m.home_path m.inside key s st m.is_node f e))
       (one_more w' (ledger_of key [] more) key x (PrefixCell key) (passed_owners s key) ([], append-nil key) (passed_new w' (ledger_of key [] more) key (x + 1) s key ([], append-nil key)))
 

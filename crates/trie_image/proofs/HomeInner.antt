@@ -87,7 +87,7 @@ module _ (w : List ℕ) (g : Ledger) (cells : ℕ) (ok : IsImage w g cells) (key
     -- the child under a mid cell of index k, by way of the mid pointer m
     under_mid : (d k m b : ℕ) → (m ≢ 0 → owner g (m / 32) ≡ Some (MidCell d k)) → TurnsTo w (stored_field w c i l) g ok.each 0 entry (mid_child w m b) (mid_child (stored_field w c i l) m b)
     under_mid d k m b owned = ⊎_elim (λ (z : m ≡ 0). inl (mid_none (stored_field w c i l) m b z ∙ sym (mid_none w m b z)))
-        (λ (ne : m ≢ 0). let w' : List ℕ = stored_field w c i l in let cell : IsMidCell w g (m / 32) d k = ok.each (m / 32) (MidCell d k) (owned ne) in
+        (λ (ne : m ≢ 0). let cell : IsMidCell w g (m / 32) d k = ok.each (m / 32) (MidCell d k) (owned ne) in
         let leaves : field w (m / 32) (b / 8 % 8) ≢ 0 → SameWords w (stored_field w c i l) (field w (m / 32) (b / 8 % 8) / 32) = λ nz. mid_keep (field w (m / 32) (b / 8 % 8) / 32) (LeafCell d k (b / 8 % 8)) (cell.leaves (b / 8 % 8) (omega arith) nz) (λ x. cc) in
         let was : mid_child w m b ≡ leaf_child w (field w (m / 32) (b / 8 % 8)) b = mid_some w m b ne in let now : mid_child (stored_field w c i l) m b ≡ leaf_child (stored_field w c i l) (field (stored_field w c i l) (m / 32) (b / 8 % 8)) b = mid_some (stored_field w c i l) m b ne in
         ⊎_elim

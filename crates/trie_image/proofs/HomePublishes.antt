@@ -45,7 +45,7 @@ module _ (w : List ℕ) (g : Ledger) (cells : ℕ) (ok : IsImage w g cells) (key
     }
 
   pub tail_publishes : (c p' from : ℕ) (t : List ℕ) → owner g c ≡ Some (ChainCell from t) → p' < 2 ^ 32 → HasPath g p' t → Publishes w (stored_field w c 7 p') g cells (field w c 7) p' t key new
-  tail_publishes c p' from t own fits at = let o : Owner = ChainCell from t in let s : 7 < 8 = omega arith in relinked_at c 7 p' (ChainCell from t) own s fits t
+  tail_publishes c p' from t own fits at = let s : 7 < 8 = omega arith in relinked_at c 7 p' (ChainCell from t) own s fits t
       record {
         fields = fields_turn c 7 p' (ChainCell from t) own s fits;
         bytes = λ d f u k e l. byte_stays w g cells c p' ok fits from t own d k l;

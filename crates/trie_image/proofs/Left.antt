@@ -1,21 +1,20 @@
 -- What the publishing store of one field leaves of the cells taken before, and of the new cells.
-use Rattle.std.proofs.Common.{◌≡◌, ◌≢◌, ◌⊎◌, ℕ, ◌+◌, ◌*◌, ◌/◌, ◌%◌, ◌^◌, ◌<◌, ◌≤◌, ◌==◌, List, [], ◌∷◌, ◌++◌, length, set, slice_index, Some, None, refl, sym, ap, ◌∙◌, subst, inl, inr, ⊎_elim, arith, get_or-set_other, get_or-set_same}
+use Rattle.std.proofs.Common.{◌≡◌, ◌≢◌, ◌⊎◌, ℕ, ◌+◌, ◌*◌, ◌/◌, ◌%◌, ◌^◌, ◌<◌, ◌≤◌, ◌==◌, List, [], length, set, slice_index, Some, sym, ap, ◌∙◌, subst, inl, inr, ⊎_elim, arith, get_or-set_other, get_or-set_same}
 use Rattle.std.proofs.lemmas.Bool.{cases_eq}
-use Rattle.cell_layout.specs.Words.{half_of, with_half_of}
-use Rattle.cell_layout.specs.Slots.{slot_at, child_bytes, word_with}
-use Rattle.cell_layout.proofs.Added.{slot_small, added_old}
+use Rattle.cell_layout.specs.Words.{with_half_of}
+use Rattle.cell_layout.specs.Slots.{slot_at}
+use Rattle.cell_layout.proofs.Added.{slot_small}
 use Rattle.trie_image.specs.declared.Owner.{Owner}
 use Rattle.trie_image.specs.declared.Owner.TheVariants.{HeadCell, ChainCell, SparseCell, TopCell, MidCell, LeafCell, PrefixCell}
 use Rattle.trie_image.specs.declared.Ledger.{Ledger}
 use Rattle.trie_image.specs.Image.{word_of, field, root_of}
 use Rattle.trie_image.specs.Paths.{owner}
 use Rattle.trie_image.specs.Cell.{IsImage}
-use Rattle.trie_image.specs.Same.{SameWords}
 use Rattle.trie_image.proofs.Kept.{own_inside, same_field, not_first}
 use Rattle.trie_image.proofs.CellWords.{Stands}
 use Rattle.trie_image.proofs.HomeStores.{stored_field}
 use Rattle.trie_image.proofs.Homes.{Home, root, tail, slot, leaf, content, node}
-use Rattle.trie_image.proofs.Turned.{Turned, same_apart, turned_now, turned_other, third_stays, apart_of, root_turned, root_stays}
+use Rattle.trie_image.proofs.Turned.{Turned, same_apart, turned_now, turned_other, third_stays, root_turned, root_stays}
 use Rattle.trie_image.proofs.Whole.{Leaves}
 
 -- the words below the new cells

@@ -22,6 +22,7 @@ pub mod OwnerLengths
 pub mod PutHomes
 pub mod SparseWords
 pub mod PutCases
+pub mod FinalSparse
 pub mod Opening
 pub mod Entries
 pub mod Nodes

@@ -42,7 +42,7 @@ module _ (w : List ℕ) (g : Ledger) (cells : ℕ) (ok : IsImage w g cells) (p :
       let same : p + 1 ≡ 0 = sym (cond-false (p % 32 == 27) (field w (p / 32) 7) (cond (nat_lt (p % 32) 27) (p + 1) 0) (ne_eqb (p % 32) 27 ne) ∙ cond-true (nat_lt (p % 32) 27) (p + 1) 0 (lt-ltb (p % 32) 27 (omega (arith, l.2)))) ∙ z in omega arith) (cases_eq (p % 32) 27)
 
   pub rest_path : HasPath g (chain_rest w p) (path ++ cell_byte w (p / 32) (p % 32) ∷ [])
-  rest_path = let b : ℕ = cell_byte w (p / 32) (p % 32) in subst (λ (x : ℕ). HasPath g x (path ++ cell_byte w (p / 32) (p % 32) ∷ [])) (rest_is refl) (closed w g ok.each p path (cell_byte w (p / 32) (p % 32)) at (λ z. rest_there (sym (rest_is refl) ∙ z)))
+  rest_path = subst (λ (x : ℕ). HasPath g x (path ++ cell_byte w (p / 32) (p % 32) ∷ [])) (rest_is refl) (closed w g ok.each p path (cell_byte w (p / 32) (p % 32)) at (λ z. rest_there (sym (rest_is refl) ∙ z)))
 
 module _ (w w' : List ℕ) (g g' : Ledger) (cells : ℕ) (ok : IsImage w g cells) (grows : (p : ℕ) (r : List ℕ) → HasPath g p r → HasPath g' p r) (keeps : (c : ℕ) (o : Owner) → owner g c ≡ Some o → owner g' c ≡ Some o) (x content entry : ℕ) (low : x + 64 < 2 ^ 26) (some_ : 1 ≤ x) where
   head : owner g' 0 ≡ Some HeadCell
@@ -65,7 +65,7 @@ module _ (w w' : List ℕ) (g g' : Ledger) (cells : ℕ) (ok : IsImage w g cells
   module _ (s : Stand) (q m path : List ℕ) (entered : s.entered ≢ 0 → HasPath g s.entered q) (at_path : HasPath g s.at path) (forward : s.at ≡ s.entered + length m) (offset : length m ≤ s.at % 32) (passed : path ≡ q ++ m) where
     pub other_byte : (b : ℕ) → kind_at s.at ≡ Some kind.Chain → cell_byte w (s.at / 32) (s.at % 32) ≢ b → b < 256 → HasPath g' entry (path ++ b ∷ []) → Owns g' x (SparseCell path ∷ passed_owners s path)
         → Stands w' x (split_words (cell_byte w (s.at / 32) (s.at % 32)) (chain_rest w s.at) b entry ++ passed_words w s (32 * x + 30)) → AreCells w' g' x (SparseCell path ∷ passed_owners s path) × HasPath g' (over_passed s x 30) q
-    other_byte b is ne small at own h = let old : ℕ = cell_byte w (s.at / 32) (s.at % 32) in let split : List ℕ = split_words (cell_byte w (s.at / 32) (s.at % 32)) (chain_rest w s.at) b entry in let after : List ℕ = passed_words w s (32 * x + 30) in
+    other_byte b is ne small at own h = let split : List ℕ = split_words (cell_byte w (s.at / 32) (s.at % 32)) (chain_rest w s.at) b entry in let after : List ℕ = passed_words w s (32 * x + 30) in
         let own_passed : Owns g' (x + 1) (passed_owners s path) = owns_back g' x (x + 1) (SparseCell path ∷ []) (passed_owners s path) refl own in
         let child : HasPath g' (chain_rest w s.at) (path ++ cell_byte w (s.at / 32) (s.at % 32) ∷ []) = grows (chain_rest w s.at) (path ++ cell_byte w (s.at / 32) (s.at % 32) ∷ []) (rest_path w g cells ok s.at path at_path is) in
         let node : HasPath g' (32 * x + 30) path = sparse_at path (owner_first g' x (SparseCell path) (passed_owners s path) own) in (

@@ -105,7 +105,7 @@ module _ (w : List ℕ) (g : Ledger) (end : ℕ) where
   pub chain_cells_are : (n f : ℕ) (q bytes : List ℕ) → Stands w f (chain_from f n bytes end) → Owns g f (chain_owners n q bytes) → f + n < 2 ^ 26 → length bytes ≤ 28 * n → 28 * n < length bytes + 28 → AreBytes bytes → HasPath g end (q ++ bytes) → AreCells w g f (chain_owners n q bytes)
   chain_cells_are zero f q bytes h own small few more are at = λ j o e. absurd (cc)
   chain_cells_are (suc n) f q bytes h own small few more are at =
-      let k : ℕ = length bytes - 28 * n in let part : List ℕ = take (length bytes - 28 * n) bytes in let after : List ℕ = drop (length bytes - 28 * n) bytes in
+      let part : List ℕ = take (length bytes - 28 * n) bytes in let after : List ℕ = drop (length bytes - 28 * n) bytes in
       let cell : List ℕ = chain_cell (padded part) (next_cell f n end) in let others : List ℕ = chain_from (f + 1) n after end in
       let first : Owner = ChainCell (28 - length part) (q ++ part) in let lengths = first_len n bytes (omega arith) in let left = rest_len n bytes (omega arith) in
       let own_after : Owns g (f + 1) (chain_owners n (q ++ part) after) = owns_back g f (f + 1) (first ∷ []) (chain_owners n (q ++ part) after) refl own in

@@ -19,6 +19,10 @@ use Rattle.trie_image.proofs.NewChains.{Owns, AreCells, cell_alone, owner_first}
 use Rattle.trie_image.proofs.NewCells.{passed_is, passed_path}
 use Rattle.trie_image.proofs.NewOwners.{passed_owners}
 
+-- a chain cell has one owner
+chain_once : (g : Ledger) (c a b : ℕ) (t u : List ℕ) → owner g c ≡ Some (ChainCell a t) → owner g c ≡ Some (ChainCell b u) → (a ≡ b) × (t ≡ u)
+chain_once g c a b t u e f = let two : Some (ChainCell a t) ≡ Some (ChainCell b u) = sym e ∙ f in let froms : a ≡ b = cc in let tails : t ≡ u = cc in (froms, tails)
+
 -- a pointer into the cell of a sparse or a split node is the node's
 sparse_alone : (g : Ledger) (a p : ℕ) (q r : List ℕ) → HasPath g a q → a / 32 ≡ p / 32 → kind_at p ≡ Some kind.Sparse → owner g (a / 32) ≡ Some (SparseCell r) → a ≡ p
 sparse_alone g a p q r (at_content n e k o h s) same is own = let l : 2 ^ 31 ≤ a = is_kind a (Some kind.Content) k in let m : (p ≢ 0) × (p < 2 ^ 31) × (p % 32 ≡ 30) = is_kind p (Some kind.Sparse) is in absurd (omega (arith, m.1))
@@ -55,7 +59,7 @@ module _ (w : List ℕ) (g : Ledger) (cells : ℕ) (ok : IsImage w g cells) (s :
 
   still_chain : s.at ≢ s.entered → IsNode s.at → kind_at s.at ≡ Some kind.Chain
   still_chain ne (inl k) = k
-  still_chain ne (inr (inl k)) = let o = sparse_of g s.at path at_path k in let same = same_cell in
+  still_chain ne (inr (inl k)) = let o = sparse_of g s.at path at_path k in  
       absurd (ne (sym (sparse_alone g s.entered s.at q path (there (SparseCell path) o (λ x. cc)) (sym same_cell) k (subst (λ (c : ℕ). owner g c ≡ Some (SparseCell path)) same_cell o))))
   still_chain ne (inr (inr k)) = let o = wide_of g s.at path at_path k in
       absurd (ne (sym (wide_alone g s.entered s.at q path (there (TopCell path) o (λ x. cc)) (sym same_cell) k (subst (λ (c : ℕ). owner g c ≡ Some (TopCell path)) same_cell o))))
@@ -64,8 +68,7 @@ module _ (w : List ℕ) (g : Ledger) (cells : ℕ) (ok : IsImage w g cells) (s :
   entered_in from t own few small = let at : HasPath g s.entered q = there (ChainCell from t) own (λ x. cc) in
       let j = chain_of g s.entered q at (is_chain s.entered (path_nonzero g s.entered q at) small few) in
       let here : owner g (s.entered / 32) ≡ Some (ChainCell from t) = subst (λ (c : ℕ). owner g c ≡ Some (ChainCell from t)) same_cell own in
-      let two : Some (ChainCell j.0 j.1) ≡ Some (ChainCell from t) = sym j.2 ∙ here in let froms : j.0 ≡ from = cc in let tails : j.1 ≡ t = cc in
-      (omega (arith, j.3, froms), j.4 ∙ ap (λ (x : List ℕ). chain_path x (s.entered % 32)) tails)
+      let one = chain_once g (s.entered / 32) j.0 from j.1 t j.2 here in (omega (arith, j.3, one.0), j.4 ∙ ap (λ (x : List ℕ). chain_path x (s.entered % 32)) one.1)
 
   in_cell : s.at ≢ s.entered → kind_at s.at ≡ Some kind.Chain → IsPassed
   in_cell ne k = let i = chain_of g s.at path at_path k in let l : (s.at ≢ 0) × (s.at < 2 ^ 31) × (s.at % 32 ≤ 27) = is_kind s.at (Some kind.Chain) k in
@@ -108,7 +111,7 @@ module _ (w : List ℕ) (g : Ledger) (cells : ℕ) (ok : IsImage w g cells) (s :
       where
         by : (t : Bool) → (s.at == s.entered) ≡ t → Owns g' (x + 1) (cond t [] (ChainCell (28 - (s.at - s.entered)) path ∷ [])) → HasPath g' (cond t (32 * x + off) (32 * (x + 1) + (28 - (s.at - s.entered)))) q
         by true e h = subst (HasPath g' (32 * x + off)) (none_passed (eqb-true s.at s.entered e)) at
-        by false e h = let p : IsPassed = is_passed (eqb-false s.at s.entered e) node in let l : s.entered < s.at = p.later in let i : s.at % 32 ≤ 27 = p.inside in let y : ℕ = 32 * (x + 1) + (28 - (s.at - s.entered)) in
+        by false e h = let p : IsPassed = is_passed (eqb-false s.at s.entered e) node in let l : s.entered < s.at = p.later in let i : s.at % 32 ≤ 27 = p.inside in
             let few : s.at - s.entered ≤ 27 = omega arith in
             let cell : (32 * (x + 1) + (28 - (s.at - s.entered))) / 32 ≡ x + 1 = omega arith in let o : (32 * (x + 1) + (28 - (s.at - s.entered))) % 32 ≡ 28 - (s.at - s.entered) = omega arith in
             at_chain (28 - (s.at - s.entered)) path (is_chain (32 * (x + 1) + (28 - (s.at - s.entered))) (λ z. omega arith) (omega arith) (omega (arith, o)))

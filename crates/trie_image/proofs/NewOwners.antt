@@ -1,5 +1,5 @@
 -- The owners of a put's new cells, and that each of these cells is what its owner says.
-use Rattle.std.proofs.Common.{◌≡◌, ◌≢◌, ℕ, zero, suc, ◌+◌, ◌-◌, ◌*◌, ◌/◌, ◌%◌, ◌^◌, ◌<◌, ◌≤◌, ◌==◌, cond, List, [], ◌∷◌, ◌++◌, length, map, le-leb, slice_get, Some, refl, sym, ap, ◌∙◌, subst, arith, append-nil, length-append, eq-eqb, ne_eqb}
+use Rattle.std.proofs.Common.{◌≡◌, ◌≢◌, ℕ, zero, suc, ◌+◌, ◌-◌, ◌*◌, ◌/◌, ◌%◌, ◌^◌, ◌≤◌, ◌==◌, cond, List, [], ◌∷◌, ◌++◌, length, map, slice_get, Some, refl, sym, ap, ◌∙◌, subst, arith, append-nil, length-append, eq-eqb, ne_eqb}
 use Rattle.std.proofs.lemmas.Bool.{cond-true, cond-false}
 use Rattle.std.specs.List.{range_with_len}
 use Rattle.cell_layout.specs.declared.Kind.TheVariants as kind
@@ -17,6 +17,7 @@ use Rattle.trie_image.specs.Paths.{owner, HasPath, at_content}
 use Rattle.trie_image.specs.Cell.{record_cells}
 use Rattle.trie_image.specs.Body.{record_words, chain_cells, chain_from, seven}
 use Rattle.trie_image.specs.Stores.{content_of, entry_of, first_further}
+use Rattle.trie_image.proofs.NewPointers.{content_kind}
 use Rattle.trie_image.proofs.CellWords.{Stands, stands_front, stands_back, AreBytes}
 use Rattle.trie_image.proofs.NewChains.{Owns, AreCells, owns_front, owns_back, cells_joined, owner_first, chain_owners, length_chain_owners, chain_enters, chain_cells_are}
 use Rattle.trie_image.proofs.NewCells.{record_owners, length_record_words, record_cells_are}
@@ -61,19 +62,13 @@ module _ (g' : Ledger) (n used : ℕ) (put : Put) (start rest : List ℕ) (more 
   pub own_further : Owns g' (first_further used put.value rest) more
   own_further = owns_back g' used (first_further used put.value rest) (first_owners n put.value start rest) more (omega (arith, length_first_owners n put.value start rest)) own
 
-  pub content_kind : kind_at (content_of used) ≡ Some kind.Content
-  content_kind = rw (ne_eqb (2 ^ 32 - 1 - used) 0 (λ z. omega arith), le-leb (2 ^ 31) (2 ^ 32 - 1 - used) (omega arith)) refl
-
   first_record : (k : ℕ) → 1 ≤ k → Owns g' used (record_owners n k) → owner g' used ≡ Some (RecordCell n 0)
   first_record zero l h = absurd (omega arith)
   first_record (suc k) l h = owner_first g' used (RecordCell n 0) _ h
 
   pub content_path : HasPath g' (content_of used) put.key
   content_path = let c : record_cell (content_of used) ≡ used = omega arith in
-      at_content n put content_kind (subst (λ (x : ℕ). owner g' x ≡ Some (RecordCell n 0)) (sym c) (first_record (record_cells (length put.value)) (omega arith) own_record)) there refl
-
-  pub content_small : content_of used < 2 ^ 31 + 2 ^ 31
-  content_small = omega arith
+      at_content n put (content_kind [] used (omega arith)) (subst (λ (x : ℕ). owner g' x ≡ Some (RecordCell n 0)) (sym c) (first_record (record_cells (length put.value)) (omega arith) own_record)) there refl
 
   -- the entry of the chain, which is the content where no byte is left
   pub entry_chain : rest ≢ [] → (HasPath g' (entry_of used put.value rest) start) × (kind_at (entry_of used put.value rest) ≡ Some kind.Chain)
@@ -82,7 +77,7 @@ module _ (g' : Ledger) (n used : ℕ) (put : Put) (start rest : List ℕ) (more 
       by : (r : List ℕ) → r ≢ [] → rest ≡ r → (HasPath g' (entry_of used put.value rest) start) × (kind_at (entry_of used put.value rest) ≡ Some kind.Chain)
       by [] ne e = absurd (ne refl)
       by (b ∷ r) ne e = let long : 1 ≤ length rest = let l = ap (λ (x : List ℕ). length x) e in omega (arith, l) in
-          let f : ℕ = used + record_cells (length put.value) in let k : ℕ = chain_cells (length rest) - 1 in
+
           let more_ : suc (chain_cells (length rest) - 1) ≡ chain_cells (length rest) = omega arith in
           let is : entry_of used put.value rest ≡ 32 * (used + record_cells (length put.value)) + (28 * chain_cells (length rest) - length rest) =
           cond-false (length rest == 0) (content_of used) (32 * (used + record_cells (length put.value)) + (28 * chain_cells (length rest) - length rest)) (ne_eqb (length rest) 0 (λ z. omega arith)) in

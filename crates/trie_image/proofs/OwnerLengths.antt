@@ -25,7 +25,7 @@ length_passed w s path end = by (s.at == s.entered)
 
 length_wide : (w : List ℕ) (node b entry x : ℕ) (path bytes : List ℕ) → length (top_words bytes x ++ mid_words bytes x 4 ++ leaf_words w node b entry bytes 32) ≡ 4 * length (wide_owners bytes x path)
 unfolding mid_words leaf_words
-length_wide w node b entry x path bytes = let four : length (top_words bytes x) ≡ 4 = refl in let mids = filter (has_mid bytes) (range_with_len 0 4) in let leaves = filter (has_leaf bytes) (range_with_len 0 32) in
+length_wide w node b entry x path bytes = let four : length (top_words bytes x) ≡ 4 = refl in
     omega (
       arith,
       four,
@@ -39,7 +39,7 @@ length_wide w node b entry x path bytes = let four : length (top_words bytes x) 
     )
 
 length_further_owners : (w : List ℕ) (m : Meets) (s : Stand) (path : List ℕ) (b t x content entry : ℕ) → length (further w m s b x content entry) ≡ 4 * length (further_owners w m s path b t x)
-length_further_owners w OtherByte s path b t x content entry = let split : List ℕ = split_words (cell_byte w (s.at / 32) (s.at % 32)) (chain_rest w s.at) b entry in
+length_further_owners w OtherByte s path b t x content entry =
     omega (arith, length-append (split_words (cell_byte w (s.at / 32) (s.at % 32)) (chain_rest w s.at) b entry) (passed_words w s (32 * x + 30)), length_split (cell_byte w (s.at / 32) (s.at % 32)) (chain_rest w s.at) b entry, length_passed w s path (32 * x + 30))
 length_further_owners w End s path b t x content entry = let four : length (prefix_words content s.at) ≡ 4 = refl in omega (arith, length-append (prefix_words content s.at) (passed_words w s (32 * x + 31)), length_passed w s path (32 * x + 31), four)
 length_further_owners w Full s path b t x content entry = length_wide w (s.at / 32) b entry x path (seven (word_of w (s.at / 32) 3) b)
@@ -53,7 +53,7 @@ length_further_owners w Sparse s path b t x content entry = refl
 -- four words for each new owner
 pub as_many : (w : List ℕ) (used number n : ℕ) (value start rest : List ℕ) (e : Exit) (b t : ℕ) (path : List ℕ) → length (body_words w used number value rest e b) ≡ 4 * length (first_owners n value start rest ++ further_owners w e.meets e.stand path b t (first_further used value rest))
 unfolding body_words
-as_many w used number n value start rest e b t path = let x : ℕ = first_further used value rest in let words : List ℕ = record_words number value in let chain : List ℕ = chain_from (used + record_cells (length value)) (chain_cells (length rest)) rest (content_of used) in
+as_many w used number n value start rest e b t path = let words : List ℕ = record_words number value in
     omega (
       arith,
       length-append (record_words number value ++ chain_from (used + record_cells (length value)) (chain_cells (length rest)) rest (content_of used)) (further w e.meets e.stand b (first_further used value rest) (content_of used) (entry_of used value rest)),

@@ -43,19 +43,12 @@ pub bytes_after : (path rest key : List ℕ) → path ++ rest ≡ key → AreByt
 bytes_after path rest key e h k = subst (λ (x : ℕ). x < 256) (sym (sym (get_or-append-add path rest k 0) ∙ ap (λ (l : List ℕ). slice_index l (length path + k)) e)) (h (length path + k))
 
 -- a node's pointer behind passed bytes
-pub over_node : (s : Stand) (x off : ℕ) → IsNode (32 * x + off) → s.entered ≤ s.at → x + 64 < 2 ^ 26 → IsNode (over_passed s x off)
+pub over_node : (s : Stand) (x off : ℕ) → (s.at ≡ s.entered → IsNode (32 * x + off)) → s.entered ≤ s.at → x + 64 < 2 ^ 26 → IsNode (over_passed s x off)
 over_node s x off is le low = by (s.at == s.entered) refl
   where
     by : (t : Bool) → (s.at == s.entered) ≡ t → IsNode (cond t (32 * x + off) (32 * (x + 1) + (28 - (s.at - s.entered))))
-    by true e = is
+    by true e = is (eqb-true s.at s.entered e)
     by false e = let ne = eqb-false s.at s.entered e in let o : (32 * (x + 1) + (28 - (s.at - s.entered))) % 32 ≤ 27 = omega arith in inl (is_chain (32 * (x + 1) + (28 - (s.at - s.entered))) (λ z. omega arith) (omega arith) o)
-
-pub over_chain : (s : Stand) (x off : ℕ) → s.at ≢ s.entered → s.entered ≤ s.at → x + 64 < 2 ^ 26 → IsNode (over_passed s x off)
-over_chain s x off ne le low = by (s.at == s.entered) refl
-  where
-    by : (t : Bool) → (s.at == s.entered) ≡ t → IsNode (cond t (32 * x + off) (32 * (x + 1) + (28 - (s.at - s.entered))))
-    by true e = absurd (ne (eqb-true s.at s.entered e))
-    by false e = let o : (32 * (x + 1) + (28 - (s.at - s.entered))) % 32 ≤ 27 = omega arith in inl (is_chain (32 * (x + 1) + (28 - (s.at - s.entered))) (λ z. omega arith) (omega arith) o)
 
 -- a node's pointer is below 2^31, and a content pointer isn't
 node_below : (p : ℕ) → IsNode p → p < 2 ^ 31
@@ -108,7 +101,7 @@ module _ (w w1 : List ℕ) (g : Ledger) (cells used : ℕ) (key value : List ℕ
 
   pub past_put : (b t : ℕ) (m : MetPastContent w g key s taken) → Stands w1 used (body_words w used (slice_index w 0 + 1) value (m.byte ∷ m.rest) (exit_with PastContent s taken) b)
       → Publishes w1 (stored_field w1 s.cell s.field (32 * first_further used value (m.byte ∷ m.rest) + 31)) (ledger_after g used key value m.path (m.byte ∷ m.rest) (PrefixCell m.path ∷ [])) cells s.entered (32 * first_further used value (m.byte ∷ m.rest) + 31) m.path key used
-  past_put b t m h = let rest : List ℕ = m.byte ∷ m.rest in let x : ℕ = first_further used value (m.byte ∷ m.rest) in let d = ready PastContent m.path (m.byte ∷ m.rest) m.path b t m.whole h in let st = m.stands in
+  past_put b t m h = let d = ready PastContent m.path (m.byte ∷ m.rest) m.path b t m.whole h in let st = m.stands in
       let here : s.at ≢ 0 = λ z. let l = content_above s.at m.is_content in omega arith in
       let new = past_content w w1 g (ledger_after g used key value m.path (m.byte ∷ m.rest) (PrefixCell m.path ∷ [])) cells ok d.grows d.keeps (first_further used value (m.byte ∷ m.rest)) (content_of used) (entry_of used value (m.byte ∷ m.rest)) d.near d.low s.at m.path (st.at_path here) m.is_content d.at_entry
       (d.is_chain (λ z. cc)) d.owned (further_stands w w1 used (slice_index w 0 + 1) value (m.byte ∷ m.rest) (exit_with PastContent s taken) b h) in
@@ -117,12 +110,12 @@ module _ (w w1 : List ℕ) (g : Ledger) (cells used : ℕ) (key value : List ℕ
 
   pub end_put : (b t : ℕ) (m : MetEnd w g key s) → Stands w1 used (body_words w used (slice_index w 0 + 1) value [] (exit_with End s taken) b)
       → Publishes w1 (stored_field w1 s.cell s.field (over_passed s (first_further used value []) 31)) (ledger_after g used key value key [] (further_owners w End s key b t (first_further used value []))) cells s.entered (over_passed s (first_further used value []) 31) m.home_path key used
-  end_put b t m h = let x : ℕ = first_further used value [] in let more : List Owner = further_owners w End s key b t (first_further used value []) in let d = ready End key [] key b t (append-nil key) h in let st = m.stands in let below = node_below s.at m.is_node in
+  end_put b t m h = let d = ready End key [] key b t (append-nil key) h in let st = m.stands in let below = node_below s.at m.is_node in
       let new = key_end w w1 g (ledger_after g used key value key [] (further_owners w End s key b t (first_further used value []))) cells ok d.grows d.keeps (first_further used value []) (content_of used) (entry_of used value []) d.near d.low s m.home_path m.inside key st.entered (st.at_path (node_nonzero s.at m.is_node)) st.forward st.offset st.passed
       m.is_node d.at_content (content_kind [] used (omega (arith, d.few))) d.owned (further_stands w w1 used (slice_index w 0 + 1) value [] (exit_with End s taken) b h) in
       let later : s.entered ≤ s.at = omega (arith, st.forward) in let bare = m.bare in
       publish key [] (further_owners w End s key b t (first_further used value [])) d m.home_path m.inside key (over_passed s (first_further used value []) 31) st (d.image new.0) new.1 record {
-        at_node = λ own z. over_chain s (first_further used value []) 31 (λ e. bare e m.home_path own) later d.near;
+        at_node = λ own z. over_node s (first_further used value []) 31 (λ e. absurd (bare e m.home_path own)) later d.near;
         at_content = λ own z. let c = held_content m.home_path m.inside key st own z in let above = content_above s.entered c.0 in absurd (omega arith);
       }
 
@@ -134,7 +127,7 @@ module _ (w w1 : List ℕ) (g : Ledger) (cells used : ℕ) (key value : List ℕ
       m.byte m.is_chain m.other small d.at_entry d.owned (further_stands w w1 used (slice_index w 0 + 1) value m.rest (exit_with OtherByte s taken) m.byte h) in
       let later : s.entered ≤ s.at = omega (arith, st.forward) in
       publish (m.path ++ m.byte ∷ []) m.rest (further_owners w OtherByte s m.path m.byte t (first_further used value m.rest)) d m.home_path m.inside m.path (over_passed s (first_further used value m.rest) 30) st (d.image new.0) new.1 record {
-        at_node = λ own z. over_node s (first_further used value m.rest) 30 (inr (inl (offset_is (first_further used value m.rest) 30 d.low d.near (omega arith)))) later d.near;
+        at_node = λ own z. over_node s (first_further used value m.rest) 30 (λ _. inr (inl (offset_is (first_further used value m.rest) 30 d.low d.near (omega arith)))) later d.near;
         at_content = λ own z. let c = held_content m.home_path m.inside m.path st own z in let above = content_above s.entered c.0 in absurd (omega arith);
       }
 
@@ -155,7 +148,7 @@ module _ (w w1 : List ℕ) (g : Ledger) (cells used : ℕ) (key value : List ℕ
 
   pub leaf_put : (m : MetNoLeaf w g key s taken) → Stands w1 used (body_words w used (slice_index w 0 + 1) value m.rest (exit_with NoLeaf s taken) m.byte)
       → Publishes w1 (stored_field w1 s.cell s.field (32 * first_further used value m.rest + 28)) (ledger_after g used key value (m.path ++ m.byte ∷ []) m.rest (further_owners w NoLeaf s m.path m.byte m.top (first_further used value m.rest))) cells 0 (entry_of used value m.rest) (m.path ++ m.byte ∷ []) key used
-  leaf_put m h = let whole : (m.path ++ m.byte ∷ []) ++ m.rest ≡ key = append_assoc m.path (m.byte ∷ []) m.rest ∙ m.whole in let b : ℕ = m.byte in let x : ℕ = first_further used value m.rest in let sp = m.split in let mid = m.mid in
+  leaf_put m h = let whole : (m.path ++ m.byte ∷ []) ++ m.rest ≡ key = append_assoc m.path (m.byte ∷ []) m.rest ∙ m.whole in let sp = m.split in let mid = m.mid in
       let d = ready NoLeaf (m.path ++ m.byte ∷ []) m.rest m.path m.byte m.top whole h in let small : m.byte < 256 = sp.small in
       let words : Stands w1 (first_further used value m.rest) (lone_words (m.byte % 8) (entry_of used value m.rest)) = further_stands w w1 used (slice_index w 0 + 1) value m.rest (exit_with NoLeaf s taken) m.byte h in
       let new = no_leaf w w1 g (ledger_after g used key value (m.path ++ m.byte ∷ []) m.rest (further_owners w NoLeaf s m.path m.byte m.top (first_further used value m.rest))) cells ok d.grows d.keeps (first_further used value m.rest) (content_of used) (entry_of used value m.rest) d.near d.low m.top m.byte m.path small sp.own d.at_entry d.owned words in
@@ -168,7 +161,7 @@ module _ (w w1 : List ℕ) (g : Ledger) (cells used : ℕ) (key value : List ℕ
 
   pub mid_put : (t : ℕ) (m : MetNoMid w g key s taken) → Stands w1 used (body_words w used (slice_index w 0 + 1) value m.rest (exit_with NoMid s taken) m.byte)
       → Publishes w1 (stored_field w1 s.cell s.field (32 * first_further used value m.rest + 28)) (ledger_after g used key value (m.path ++ m.byte ∷ []) m.rest (further_owners w NoMid s m.path m.byte t (first_further used value m.rest))) cells 0 (entry_of used value m.rest) (m.path ++ m.byte ∷ []) key used
-  mid_put t m h = let whole : (m.path ++ m.byte ∷ []) ++ m.rest ≡ key = append_assoc m.path (m.byte ∷ []) m.rest ∙ m.whole in let x : ℕ = first_further used value m.rest in let sp = m.split in
+  mid_put t m h = let whole : (m.path ++ m.byte ∷ []) ++ m.rest ≡ key = append_assoc m.path (m.byte ∷ []) m.rest ∙ m.whole in let sp = m.split in
       let d = ready NoMid (m.path ++ m.byte ∷ []) m.rest m.path m.byte t whole h in let small : m.byte < 256 = sp.small in
       let mids : List ℕ = lone_words (m.byte / 8 % 8) (32 * (first_further used value m.rest + 1) + 28) in let leaves : List ℕ = lone_words (m.byte % 8) (entry_of used value m.rest) in
       let words : Stands w1 (first_further used value m.rest) (lone_words (m.byte / 8 % 8) (32 * (first_further used value m.rest + 1) + 28) ++ lone_words (m.byte % 8) (entry_of used value m.rest)) = further_stands w w1 used (slice_index w 0 + 1) value m.rest (exit_with NoMid s taken) m.byte h in

@@ -103,7 +103,7 @@ module _ (w w1 : List ℕ) (g : Ledger) (cells used : ℕ) (key value : List ℕ
   -- the image with the new cells
   new_image : (e : Exit) (b : ℕ) → Stands w1 used (body_words w used (slice_index w 0 + 1) value rest e b) → AreCells w1 (ledger_after g used key value start rest more) (first_further used value rest) more
       → IsImage w1 (ledger_after g used key value start rest more) cells
-  new_image e b h are = let own : List Owner = first_owners (length g.puts) value start rest ++ more in
+  new_image e b h are =
       let lengths : length (first_owners (length g.puts) value start rest ++ more) ≡ record_cells (length value) + chain_cells (length rest) + length more = omega (arith, length-append (first_owners (length g.puts) value start rest) more, length_first_owners (length g.puts) value start rest) in
       let stands : Stands w1 used (body_words w used (length g.puts + 1) value rest e b) = subst (λ (n : ℕ). Stands w1 used (body_words w used (n + 1) value rest e b)) (sym counted) h in
       let first = first_cells_are (ledger_after g used key value start rest more) (length g.puts) used record { key = key; value = value; cell = used } start rest more owned put_there low (omega (arith, near)) whole w1 refl bytes

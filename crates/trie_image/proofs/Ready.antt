@@ -1,5 +1,5 @@
 -- The words after the stores into a put's new cells, and after the publishing store of one field.
-use Rattle.std.proofs.Common.{◌≡◌, ◌≢◌, ℕ, ◌+◌, ◌*◌, ◌/◌, ◌%◌, ◌^◌, ◌<◌, ◌≤◌, ◌==◌, List, [], ◌∷◌, ◌++◌, length, map, set, slice_get, slice_index, Some, None, refl, sym, ap, ◌∙◌, subst, arith, zero, suc}
+use Rattle.std.proofs.Common.{◌≡◌, ℕ, ◌+◌, ◌*◌, ◌/◌, ◌%◌, ◌^◌, ◌<◌, ◌≤◌, ◌==◌, List, [], ◌∷◌, ◌++◌, length, map, slice_get, slice_index, Some, refl, ap, ◌∙◌, arith, zero, suc}
 use Rattle.std.specs.List.{range_with_len}
 use Rattle.cell_layout.specs.Words.{with_half_of}
 use Rattle.trie_image.specs.declared.Owner.{Owner}
