@@ -1,5 +1,5 @@
 -- For each case that a walk met, but a sparse node with room: the image after the publishing store has the put.
-use Rattle.std.proofs.Common.{◌≡◌, ◌≢◌, ◌⊎◌, ℕ, ◌+◌, ◌-◌, ◌*◌, ◌/◌, ◌%◌, ◌^◌, ◌<◌, ◌≤◌, ◌==◌, List, [], ◌∷◌, ◌++◌, length, slice_index, Some, None, refl, sym, ap, ◌∙◌, subst, inl, inr, ⊎_elim, arith, append_assoc, append-nil, length-append}
+use Rattle.std.proofs.Common.{◌≡◌, ◌≢◌, ◌⊎◌, ℕ, ◌+◌, ◌-◌, ◌*◌, ◌/◌, ◌%◌, ◌^◌, ◌<◌, ◌≤◌, ◌==◌, List, [], ◌∷◌, ◌++◌, length, slice_index, Some, refl, sym, ap, ◌∙◌, subst, inl, inr, arith, append_assoc, append-nil, length-append}
 use Rattle.std.proofs.lemmas.Bool.{cond_both, cond-true, eq-eqb}
 use Rattle.cell_layout.specs.declared.Kind.TheVariants as kind
 use Rattle.cell_layout.specs.Pointers.{kind_at}
@@ -10,11 +10,11 @@ use Rattle.trie_image.specs.declared.Owner.TheVariants.{HeadCell, ChainCell, Spa
 use Rattle.trie_image.specs.declared.Ledger.{Ledger}
 use Rattle.trie_image.specs.declared.exit.Stand.{Stand}
 use Rattle.trie_image.specs.declared.exit.Meets.{Meets}
-use Rattle.trie_image.specs.declared.exit.Meets.TheVariants.{Content, Nothing, OtherByte, End, Sparse, Full, NoLeaf, NoMid, PastContent}
+use Rattle.trie_image.specs.declared.exit.Meets.TheVariants.{Content, Nothing, OtherByte, End, Full, NoLeaf, NoMid, PastContent}
 use Rattle.trie_image.specs.Reading.{sees_from, Reads, Better}
 use Rattle.trie_image.specs.Image.{word_of, field, slot_child, split_child, child_of, content_record, reading, root_of}
-use Rattle.trie_image.specs.Paths.{owner, HasPath}
-use Rattle.trie_image.specs.Cell.{record_cells, IsPrefixCell, IsImage}
+use Rattle.trie_image.specs.Paths.{owner}
+use Rattle.trie_image.specs.Cell.{IsPrefixCell}
 use Rattle.trie_image.specs.WellFormed.{IsWellFormed}
 use Rattle.trie_image.specs.Same.{IsSame}
 use Rattle.trie_image.specs.Exit.{exit_with}
@@ -30,8 +30,8 @@ use Rattle.trie_image.proofs.HomeStores.{stored_field}
 use Rattle.trie_image.proofs.HomeChanges.{Publishes}
 use Rattle.trie_image.proofs.Homes.{Home, IsOfPrefix, IsSplitAt, root, tail, slot, leaf, content, node}
 use Rattle.trie_image.proofs.Leaves.{StandsAt, MetContent, MetNothing, MetOtherByte, MetEnd, MetFull, MetNoLeaf, MetNoMid, MetPastContent}
-use Rattle.trie_image.proofs.Exits.{IsNode, path_nonzero, node_nonzero}
-use Rattle.trie_image.proofs.NewPointers.{offset_kind, content_kind, content_there, content_record_is}
+use Rattle.trie_image.proofs.Exits.{IsNode, node_nonzero}
+use Rattle.trie_image.proofs.NewPointers.{offset_kind, content_there, content_record_is}
 use Rattle.trie_image.proofs.NewOwners.{passed_owners, first_owners, further_owners, length_first_owners}
 use Rattle.trie_image.proofs.NewSplits.{AreNewOwners, Towards, none_new, one_more, both_new, first_new, passed_new}
 use Rattle.trie_image.proofs.Cases.{field_small, reads_nonzero, chain_stands, further_stands, entry_small, entry_is_chain, entry_reads, content_better, nothing_better, other_better, end_better, full_better, past_better}
@@ -41,10 +41,10 @@ use Rattle.trie_image.proofs.Wides.{has_new, split_there}
 use Rattle.trie_image.proofs.WideOwners.{wide_new}
 use Rattle.trie_image.proofs.Turned.{Turned, turned_now, mid_leads, top_leads, root_stays}
 use Rattle.trie_image.proofs.Published.{better_entry}
-use Rattle.trie_image.proofs.Seen.{ForPrefix, by_home, by_byte}
-use Rattle.trie_image.proofs.Whole.{Leaves, IsRecorded, changes_old, law, roots, well_formed, places_kept}
-use Rattle.trie_image.proofs.Left.{home_leaves, home_root, home_owner, leaves_by}
-use Rattle.trie_image.proofs.Ready.{ready, first_cell, few, further_near, same, stands, turned, stands_after, owned_record}
+use Rattle.trie_image.proofs.Seen.{by_home, by_byte}
+use Rattle.trie_image.proofs.Whole.{Leaves, IsRecorded, changes_old, law, well_formed, places_kept}
+use Rattle.trie_image.proofs.Left.{home_leaves, home_root, leaves_by}
+use Rattle.trie_image.proofs.Ready.{first_cell, few, further_near, same, stands, turned, stands_after, owned_record}
 use Rattle.trie_image.proofs.PutCases.{content_put, nothing_put, other_put, end_put, full_put, leaf_put, mid_put, past_put, bytes_after, over_node}
 
 -- the new child of a split node made from a sparse one
@@ -68,7 +68,7 @@ module _ (w : List ℕ) (g : Ledger) (cells : ℕ) (key value : List ℕ) (wf : 
         places = places_kept w w1 w' g cells (first_owners (length g.puts) value start rest ++ more) (put_at key value (length g.owners)) p p' h rest' wf same1 publishes is_key better seen turns left news recorded;
       }
 
-  home_inside : (q : List ℕ) (cell place : ℕ) → Home w g q cell place → (cell < length g.owners) × (place < 8)
+  pub home_inside : (q : List ℕ) (cell place : ℕ) → Home w g q cell place → (cell < length g.owners) × (place < 8)
   home_inside q cell place (root e c i) = (let l = own_inside g.owners 0 HeadCell wf.image.head in omega arith, omega arith)
   home_inside q cell place (tail f) = (own_inside g.owners cell (ChainCell f.from q) f.own, let e = f.is_place in omega arith)
   home_inside q cell place (slot f) = (own_inside g.owners cell (SparseCell f.before) f.own, let l = slot_small (word_of w cell 3) f.byte place f.slot in omega arith)
@@ -251,7 +251,7 @@ module _ (w : List ℕ) (g : Ledger) (cells : ℕ) (key value : List ℕ) (wf : 
       let own = sparse_of g s.at m.path (st.at_path (node_nonzero s.at (inr (inl m.is_sparse)))) m.is_sparse in let small_entry_ = small_entry Full s taken start rest b whole in
       let small_fields : (c : ℕ) → leaf_field w (s.at / 32) m.byte (entry_of (length g.owners) value m.rest) c < 2 ^ 32 = λ c. field_small w w' g cells wf.image s p' t (length g.owners) x entry (omega (arith, low_)) (omega (arith, near_)) few_ small_entry_ m.byte c (s.at / 32) m.path own in
       let there : split_child w' x m.byte ≢ 0 = λ z. reads_nonzero (reading w') entry (content_of (length g.owners)) m.rest reads (content_there w (length g.owners) few_)
-              (sym (split_there w w' (s.at / 32) m.byte entry x (seven (word_of w (s.at / 32) 3) m.byte) more_stands (omega (arith, near_)) small_fields m.byte small_b (has_new (word_of w (s.at / 32) 3) m.byte) ∙ new_leaf w (s.at / 32) m.byte entry) ∙ z) in
+      (sym (split_there w w' (s.at / 32) m.byte entry x (seven (word_of w (s.at / 32) 3) m.byte) more_stands (omega (arith, near_)) small_fields m.byte small_b (has_new (word_of w (s.at / 32) 3) m.byte) ∙ new_leaf w (s.at / 32) m.byte entry) ∙ z) in
       home_published Full s taken start rest b more m.path [] m.path (m.byte ∷ m.rest) p' whole st (λ z. omega arith) fits
       (full_put w w1 g cells (length g.owners) key value wf.image (same_ready Full s taken start rest b whole) refl counted room bytes s taken 0 m (ready_stands Full s taken start rest b whole)) m.whole
       (full_better w w' g cells wf.image s p' t (length g.owners) x entry (omega (arith, low_)) (omega (arith, near_)) few_ small_entry_ key taken m small_b more_stands reads)

@@ -1,5 +1,5 @@
 -- What the stores of a put do to a well-formed image. This project's own.
-use Rattle.std.specs.Prelude.{◌≡◌, ◌⊎◌, ℕ, ◌+◌, ◌<◌, List, [], ◌∷◌, ◌++◌, take, slice_get, slice_index, Some}
+use Rattle.std.specs.Prelude.{◌≡◌, ◌⊎◌, ℕ, ◌+◌, ◌*◌, ◌<◌, ◌≤◌, List, [], ◌∷◌, ◌++◌, length, take, slice_get, slice_index, Some}
 use Rattle.trie_image.specs.declared.Put.{Put}
 use Rattle.trie_image.specs.declared.Owner.{Owner}
 use Rattle.trie_image.specs.declared.Ledger.{Ledger}
@@ -12,7 +12,7 @@ use Rattle.trie_image.specs.Paths.{HasPath}
 use Rattle.trie_image.specs.WellFormed.{IsWellFormed}
 use Rattle.trie_image.specs.Same.{IsSame}
 use Rattle.trie_image.specs.Place.{IsPlace, place_sees}
-use Rattle.trie_image.specs.Stores.{store_at, stores_of, CanPut}
+use Rattle.trie_image.specs.Stores.{store_at, prepares, stores_of, CanPut}
 use Rattle.trie_image.specs.After.{after}
 use Rattle.trie_image.specs.Laws.{ArePrepares}
 
@@ -32,12 +32,17 @@ pub record IsPublished (w w' : List ℕ) (g : Ledger) (cells : ℕ) (own : List 
   pub pointers : (k : List ℕ) (a : ℕ) (q : List ℕ) → HasPath g a q → (sees (reading w') a k ≡ sees (reading w) a k) ⊎ ((q ++ k ≡ put.key) × (sees (reading w') a k ≡ Some put.cell))
   pub places : (k : List ℕ) (pl : Place) → IsPlace w g k pl → IsPlace w' (with_put g own put) k pl × ((place_sees w' k pl ≡ place_sees w k pl) ⊎ ((k ≡ put.key) × (place_sees w' k pl ≡ Some put.cell)))
 
--- the stores of a put: those before the publishing one change nothing that a pointer with a path reads, one by one; the
--- publishing one adds the put; the last one counts it
+-- the stores of a put: the words of its new cells, four for each, and at most one more change nothing that a pointer with a
+-- path reads, one by one; the publishing store adds the put; the last one counts it
 pub record IsPutBy (w : List ℕ) (g : Ledger) (cells : ℕ) (put : Put) (stores : List WordStore) : Type 0 where
+  pub words : List ℕ
+  pub slot : List WordStore
   pub front : List WordStore
   pub publish : WordStore
   pub own : List Owner
+  pub new_cells : front ≡ prepares (4 * length g.owners) words ++ slot
+  pub exact : length words ≡ 4 * length own
+  pub at_most_one : length slot ≤ 1
   pub all : stores ≡ front ++ publish ∷ store_at 0 (slice_index w 0 + 1) Finish ∷ []
   pub prepared : ArePrepares front
   pub is_publish : publish.kind ≡ Publish
