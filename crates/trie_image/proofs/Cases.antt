@@ -134,7 +134,7 @@ module _ (w w' : List ℕ) (g : Ledger) (cells : ℕ) (ok : IsImage w g cells) (
   slot_fits c d q cell None e = omega arith
   slot_fits c d q cell (Some n) e = path_small g (field w d n) (q ++ c ∷ []) ok.head (cell.children c n e)
 
-  field_small : (b c d : ℕ) (q : List ℕ) → owner g d ≡ Some (SparseCell q) → leaf_field w d b entry c < 2 ^ 32
+  pub field_small : (b c d : ℕ) (q : List ℕ) → owner g d ≡ Some (SparseCell q) → leaf_field w d b entry c < 2 ^ 32
   unfolding leaf_field
   field_small b c d q own = cond_both (c == b) entry (slot_child w d (slot_at (word_of w d 3) c)) (λ (p : ℕ). p < 2 ^ 32) (λ e. small) (λ e. slot_fits c d q (ok.each d (SparseCell q) own) (slot_at (word_of w d 3) c) refl)
 

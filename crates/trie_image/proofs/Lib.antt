@@ -55,3 +55,4 @@ pub mod WideOwners
 pub mod Whole
 pub mod Left
 pub mod Ready
+pub mod Finals
