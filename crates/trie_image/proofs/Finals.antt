@@ -1,6 +1,6 @@
 -- For each case that a walk met, but a sparse node with room: the image after the publishing store has the put.
-use Rattle.std.proofs.Common.{◌≡◌, ◌≢◌, ◌⊎◌, ℕ, ◌+◌, ◌-◌, ◌*◌, ◌/◌, ◌%◌, ◌^◌, ◌<◌, ◌≤◌, ◌==◌, List, [], ◌∷◌, ◌++◌, length, slice_index, Some, None, refl, sym, ap, ◌∙◌, subst, inl, inr, ⊎_elim, arith, append_assoc, append-nil, length-append}
-use Rattle.std.proofs.lemmas.Bool.{cond_both}
+use Rattle.std.proofs.Common.{◌≡◌, ◌≢◌, ◌⊎◌, ℕ, ◌+◌, ◌-◌, ◌*◌, ◌/◌, ◌%◌, ◌^◌, ◌<◌, ◌≤◌, ◌==◌, List, [], ◌∷◌, ◌++◌, length, slice_index, Some, refl, sym, ap, ◌∙◌, subst, inl, inr, arith, append_assoc, append-nil, length-append}
+use Rattle.std.proofs.lemmas.Bool.{cond_both, cond-true, eq-eqb}
 use Rattle.cell_layout.specs.declared.Kind.TheVariants as kind
 use Rattle.cell_layout.specs.Pointers.{kind_at}
 use Rattle.cell_layout.proofs.PointerKinds.{is_kind}
@@ -10,37 +10,47 @@ use Rattle.trie_image.specs.declared.Owner.TheVariants.{HeadCell, ChainCell, Spa
 use Rattle.trie_image.specs.declared.Ledger.{Ledger}
 use Rattle.trie_image.specs.declared.exit.Stand.{Stand}
 use Rattle.trie_image.specs.declared.exit.Meets.{Meets}
-use Rattle.trie_image.specs.declared.exit.Meets.TheVariants.{Content, Nothing, OtherByte, End, Sparse, Full, NoLeaf, NoMid, PastContent}
+use Rattle.trie_image.specs.declared.exit.Meets.TheVariants.{Content, Nothing, OtherByte, End, Full, NoLeaf, NoMid, PastContent}
 use Rattle.trie_image.specs.Reading.{sees_from, Reads, Better}
-use Rattle.trie_image.specs.Image.{word_of, field, content_record, reading, root_of}
-use Rattle.trie_image.specs.Paths.{owner, HasPath}
-use Rattle.trie_image.specs.Cell.{record_cells, IsPrefixCell, IsImage}
+use Rattle.trie_image.specs.Image.{word_of, field, slot_child, split_child, child_of, content_record, reading, root_of}
+use Rattle.trie_image.specs.Paths.{owner}
+use Rattle.trie_image.specs.Cell.{IsPrefixCell}
 use Rattle.trie_image.specs.WellFormed.{IsWellFormed}
 use Rattle.trie_image.specs.Same.{IsSame}
 use Rattle.trie_image.specs.Exit.{exit_with}
-use Rattle.trie_image.specs.Body.{over_passed, further}
+use Rattle.trie_image.specs.Body.{over_passed, further, lone_words, seven, leaf_field}
 use Rattle.trie_image.specs.Stores.{content_of, entry_of, first_further, body_words, prepares, cost}
 use Rattle.trie_image.specs.After.{after}
 use Rattle.cell_layout.proofs.Added.{slot_small}
 use Rattle.trie_image.specs.Publish.{put_at, IsPublished}
-use Rattle.trie_image.proofs.Owners.{grown}
-use Rattle.trie_image.proofs.Kept.{own_inside}
-use Rattle.trie_image.proofs.CellWords.{Stands, AreBytes}
+use Rattle.trie_image.proofs.Owners.{get_front, grown, sparse_of}
+use Rattle.trie_image.proofs.Kept.{own_inside, not_first}
+use Rattle.trie_image.proofs.CellWords.{Stands, stands_front, stands_back, AreBytes, lone_field}
 use Rattle.trie_image.proofs.HomeStores.{stored_field}
 use Rattle.trie_image.proofs.HomeChanges.{Publishes}
-use Rattle.trie_image.proofs.Homes.{Home, IsOfPrefix, root, tail, slot, leaf, content, node}
+use Rattle.trie_image.proofs.Homes.{Home, IsOfPrefix, IsSplitAt, root, tail, slot, leaf, content, node}
 use Rattle.trie_image.proofs.Leaves.{StandsAt, MetContent, MetNothing, MetOtherByte, MetEnd, MetFull, MetNoLeaf, MetNoMid, MetPastContent}
-use Rattle.trie_image.proofs.Exits.{IsNode, path_nonzero, node_nonzero}
-use Rattle.trie_image.proofs.NewPointers.{offset_kind, content_kind, content_there, content_record_is}
+use Rattle.trie_image.proofs.Exits.{IsNode, node_nonzero}
+use Rattle.trie_image.proofs.NewPointers.{offset_kind, content_there, content_record_is}
 use Rattle.trie_image.proofs.NewOwners.{passed_owners, first_owners, further_owners, length_first_owners}
 use Rattle.trie_image.proofs.NewSplits.{AreNewOwners, Towards, none_new, one_more, both_new, first_new, passed_new}
-use Rattle.trie_image.proofs.Cases.{reads_nonzero, chain_stands, further_stands, entry_small, entry_is_chain, entry_reads, content_better, nothing_better, other_better, end_better, full_better, past_better}
-use Rattle.trie_image.proofs.Turned.{Turned}
-use Rattle.trie_image.proofs.Seen.{ForPrefix, by_home, by_byte}
-use Rattle.trie_image.proofs.Whole.{Leaves, IsRecorded, changes_old, law, roots, well_formed, places_kept}
-use Rattle.trie_image.proofs.Left.{home_leaves, home_root, home_owner, leaves_by}
-use Rattle.trie_image.proofs.Ready.{ready, first_cell, few, further_near, same, stands, turned, stands_after, owned_record}
-use Rattle.trie_image.proofs.PutCases.{content_put, nothing_put, other_put, end_put, full_put, leaf_put, mid_put, past_put, bytes_after, over_node, over_chain}
+use Rattle.trie_image.proofs.Cases.{field_small, reads_nonzero, chain_stands, further_stands, entry_small, entry_is_chain, entry_reads, content_better, nothing_better, other_better, end_better, full_better, past_better}
+use Rattle.cell_layout.specs.Slots.{slot_at}
+use Rattle.trie_image.proofs.NewChains.{Owns, get_back, owner_first}
+use Rattle.trie_image.proofs.Wides.{has_new, split_there}
+use Rattle.trie_image.proofs.WideOwners.{wide_new}
+use Rattle.trie_image.proofs.Turned.{Turned, turned_now, mid_leads, top_leads, root_stays}
+use Rattle.trie_image.proofs.Published.{better_entry}
+use Rattle.trie_image.proofs.Seen.{by_home, by_byte}
+use Rattle.trie_image.proofs.Whole.{Leaves, IsRecorded, changes_old, law, well_formed, places_kept}
+use Rattle.trie_image.proofs.Left.{home_leaves, home_root, leaves_by}
+use Rattle.trie_image.proofs.Ready.{first_cell, few, further_near, same, stands, turned, stands_after, owned_record}
+use Rattle.trie_image.proofs.PutCases.{content_put, nothing_put, other_put, end_put, full_put, leaf_put, mid_put, past_put, bytes_after, over_node}
+
+-- the new child of a split node made from a sparse one
+new_leaf : (w : List ℕ) (c b entry : ℕ) → leaf_field w c b entry b ≡ entry
+unfolding leaf_field
+new_leaf w c b entry = cond-true (b == b) entry (slot_child w c (slot_at (word_of w c 3) b)) (eq-eqb b b refl)
 
 module _ (w : List ℕ) (g : Ledger) (cells : ℕ) (key value : List ℕ) (wf : IsWellFormed w g cells) (counted : length g.puts ≡ slice_index w 0) (least : 1 ≤ length key) (most : length key ≤ 2048) (short_value : length value ≤ 65535) (room : length g.owners + cost (length key) (length value) ≤ cells) (bytes : AreBytes key) where
   put : Put
@@ -181,7 +191,7 @@ module _ (w : List ℕ) (g : Ledger) (cells : ℕ) (key value : List ℕ) (wf : 
   other_published s taken m = let st = m.stands in let b : ℕ = m.byte in let rest : List ℕ = m.rest in let start : List ℕ = m.path ++ m.byte ∷ [] in let x : ℕ = first_further (length g.owners) value m.rest in let p' : ℕ = over_passed s (first_further (length g.owners) value m.rest) 30 in
       let l = home_inside m.home_path s.cell s.field st.home in let whole : (m.path ++ m.byte ∷ []) ++ m.rest ≡ key = append_assoc m.path (m.byte ∷ []) m.rest ∙ m.whole in
       let low_ = low OtherByte s taken start rest b whole in let near_ = near OtherByte s taken start rest b whole in let few_ = small_used OtherByte s taken start rest b whole in let later : s.entered ≤ s.at = omega (arith, st.forward) in
-      let is_node : IsNode (over_passed s (first_further (length g.owners) value m.rest) 30) = over_node s (first_further (length g.owners) value m.rest) 30 (inr (inl (offset_kind (32 * x + 30) x 30 refl (omega (arith, low_)) (omega (arith, near_)) (omega arith)))) later (omega (arith, near_)) in
+      let is_node : IsNode (over_passed s (first_further (length g.owners) value m.rest) 30) = over_node s (first_further (length g.owners) value m.rest) 30 (λ z. inr (inl (offset_kind (32 * x + 30) x 30 refl (omega (arith, low_)) (omega (arith, near_)) (omega arith)))) later (omega (arith, near_)) in
       let fits : over_passed s (first_further (length g.owners) value m.rest) 30 < 2 ^ 32 = let n = node_low p' is_node in omega arith in let small_b : m.byte < 256 = bytes_after m.path (m.byte ∷ m.rest) key m.whole bytes 0 in
       let w1 : List ℕ = prepared OtherByte s taken m.rest m.byte in let w' : List ℕ = stored_field w1 s.cell s.field p' in
       let t = turns OtherByte s taken start rest b whole s.cell s.field p' l.0 l.1 fits in let reads = reads_now OtherByte s taken start rest b whole s.cell s.field p' l.0 l.1 fits in let more_stands = further_now OtherByte s taken start rest b whole s.cell s.field p' l.0 l.1 fits in
@@ -205,7 +215,7 @@ module _ (w : List ℕ) (g : Ledger) (cells : ℕ) (key value : List ℕ) (wf : 
       home_published End s taken key [] b more m.home_path m.inside key m.inside p' whole st there.0 there.1
       (end_put w w1 g cells (length g.owners) key value wf.image (same_ready End s taken key [] b whole) refl counted room bytes s taken b 0 m (ready_stands End s taken key [] b whole)) (sym st.passed)
       (end_better w w' g cells wf.image s p' t (length g.owners) x 0 (omega (arith, low_)) (omega (arith, near_)) few_ (omega arith) key m more_stands)
-      (λ f e. (over_chain s x 31 (moved f) later (omega (arith, near_)), λ z. let n = moved f in n (st.forward ∙ (ap (λ (k : List ℕ). s.entered + length k) z ∙ (let y : s.entered + 0 ≡ s.entered = omega arith in y)))))
+      (λ f e. (over_node s x 31 (λ z. absurd (let n = moved f in n z)) later (omega (arith, near_)), λ z. let n = moved f in n (st.forward ∙ (ap (λ (k : List ℕ). s.entered + length k) z ∙ (let y : s.entered + 0 ≡ s.entered = omega arith in y)))))
       (λ f e. absurd (below_node m.home_path m.inside key s st m.is_node f e))
       (one_more w' (ledger_of key [] more) key x (PrefixCell key) (passed_owners s key) ([], append-nil key) (passed_new w' (ledger_of key [] more) key (x + 1) s key ([], append-nil key)))
 
@@ -222,3 +232,83 @@ module _ (w : List ℕ) (g : Ledger) (cells : ℕ) (key value : List ℕ) (wf : 
       (past_better w w' g cells wf.image s p' t (length g.owners) x (entry_of (length g.owners) value (m.byte ∷ m.rest)) (omega (arith, low_)) (omega (arith, near_)) few_ (small_entry PastContent s taken m.path rest b whole) key taken m entry_chain more_stands reads)
       (λ f e. absurd (none m.path f.own)) (λ f e. absurd (none m.path f.own))
       (one_more w' (ledger_of m.path rest more) key x (PrefixCell m.path) [] (m.byte ∷ m.rest, m.whole) (none_new w' (ledger_of m.path rest more) key (x + 1)))
+
+  -- the further cells have their owners
+  owned_more : (start rest : List ℕ) (more : List Owner) → Owns (ledger_of start rest more) (first_further (length g.owners) value rest) more
+  owned_more start rest more j o e = let first : List Owner = first_owners (length g.puts) value start rest in let at : length g.owners + (length (first_owners (length g.puts) value start rest) + j) ≡ first_further (length g.owners) value rest + j = omega (arith, length_first_owners (length g.puts) value start rest) in
+      subst (λ (c : ℕ). owner (ledger_of start rest more) c ≡ Some o) at (get_back g.owners (first ++ more) (length first + j) o (get_back first more j o e))
+
+  pub full_published : (s : Stand) (taken : ℕ) (m : MetFull w g key s taken) → IsPublished w (stored_field (prepared Full s taken m.rest m.byte) s.cell s.field (32 * first_further (length g.owners) value m.rest + 28)) g cells
+      (first_owners (length g.puts) value (m.path ++ m.byte ∷ []) m.rest ++ further_owners w Full s m.path m.byte 0 (first_further (length g.owners) value m.rest)) (put_at key value (length g.owners))
+  full_published s taken m = let st = m.stands in let b : ℕ = m.byte in let rest : List ℕ = m.rest in let start : List ℕ = m.path ++ m.byte ∷ [] in let x : ℕ = first_further (length g.owners) value m.rest in let p' : ℕ = 32 * first_further (length g.owners) value m.rest + 28 in
+      let entry : ℕ = entry_of (length g.owners) value m.rest in let more : List Owner = further_owners w Full s m.path m.byte 0 (first_further (length g.owners) value m.rest) in
+      let l = home_inside m.path s.cell s.field st.home in let whole : (m.path ++ m.byte ∷ []) ++ m.rest ≡ key = append_assoc m.path (m.byte ∷ []) m.rest ∙ m.whole in
+      let low_ = low Full s taken start rest b whole in let near_ = near Full s taken start rest b whole in let few_ = small_used Full s taken start rest b whole in
+      let fits : 32 * first_further (length g.owners) value m.rest + 28 < 2 ^ 32 = omega (arith, near_) in let small_b : m.byte < 256 = bytes_after m.path (m.byte ∷ m.rest) key m.whole bytes 0 in
+      let is_node : IsNode (32 * first_further (length g.owners) value m.rest + 28) = inr (inr (offset_kind (32 * x + 28) x 28 refl (omega (arith, low_)) (omega (arith, near_)) (omega arith))) in
+      let w1 : List ℕ = prepared Full s taken m.rest m.byte in let w' : List ℕ = stored_field w1 s.cell s.field p' in
+      let t = turns Full s taken start rest b whole s.cell s.field p' l.0 l.1 fits in let reads = reads_now Full s taken start rest b whole s.cell s.field p' l.0 l.1 fits in let more_stands = further_now Full s taken start rest b whole s.cell s.field p' l.0 l.1 fits in
+      let own = sparse_of g s.at m.path (st.at_path (node_nonzero s.at (inr (inl m.is_sparse)))) m.is_sparse in let small_entry_ = small_entry Full s taken start rest b whole in
+      let small_fields : (c : ℕ) → leaf_field w (s.at / 32) m.byte (entry_of (length g.owners) value m.rest) c < 2 ^ 32 = λ c. field_small w w' g cells wf.image s p' t (length g.owners) x entry (omega (arith, low_)) (omega (arith, near_)) few_ small_entry_ m.byte c (s.at / 32) m.path own in
+      let there : split_child w' x m.byte ≢ 0 = λ z. reads_nonzero (reading w') entry (content_of (length g.owners)) m.rest reads (content_there w (length g.owners) few_)
+              (sym (split_there w w' (s.at / 32) m.byte entry x (seven (word_of w (s.at / 32) 3) m.byte) more_stands (omega (arith, near_)) small_fields m.byte small_b (has_new (word_of w (s.at / 32) 3) m.byte) ∙ new_leaf w (s.at / 32) m.byte entry) ∙ z) in
+      home_published Full s taken start rest b more m.path [] m.path (m.byte ∷ m.rest) p' whole st (λ z. omega arith) fits
+      (full_put w w1 g cells (length g.owners) key value wf.image (same_ready Full s taken start rest b whole) refl counted room bytes s taken 0 m (ready_stands Full s taken start rest b whole)) m.whole
+      (full_better w w' g cells wf.image s p' t (length g.owners) x entry (omega (arith, low_)) (omega (arith, near_)) few_ small_entry_ key taken m small_b more_stands reads)
+      (λ f e. (is_node, λ z. cc)) (λ f e. absurd (below_node m.path [] m.path s st (inr (inl m.is_sparse)) f e))
+      (wide_new w w' (ledger_of start rest more) key (s.at / 32) m.byte entry x m.path (seven (word_of w (s.at / 32) 3) m.byte) more_stands (omega (arith, near_)) small_fields (owned_more start rest more) (m.byte ∷ m.rest, m.whole) m.byte small_b there)
+
+  -- the cases of a new cell in a split node: the key's byte leads to the entry, where it led to nothing
+  split_published : (meets : Meets) (s : Stand) (taken : ℕ) (rest : List ℕ) (b : ℕ) (more : List Owner) (path : List ℕ) (p' parent c : ℕ) (o : Owner) → path ++ b ∷ rest ≡ key → owner g s.cell ≡ Some o → (o ≡ HeadCell → ⊥) → ((q : List ℕ) → o ≡ SparseCell q → ⊥) → field w s.cell s.field ≡ 0
+      → s.field < 8 → p' ≢ 0 → p' < 2 ^ 32 → (split : IsSplitAt w g path b parent c)
+      → Publishes (prepared meets s taken rest b) (stored_field (prepared meets s taken rest b) s.cell s.field p') (ledger_of (path ++ b ∷ []) rest more) cells 0 (entry_of (length g.owners) value rest) (path ++ b ∷ []) key (length g.owners)
+      → Reads (reading (stored_field (prepared meets s taken rest b) s.cell s.field p')) (entry_of (length g.owners) value rest) rest (content_of (length g.owners))
+      → child_of (stored_field (prepared meets s taken rest b) s.cell s.field p') split.reached.last b (kind_at split.reached.last) ≡ entry_of (length g.owners) value rest
+      → AreNewOwners (stored_field (prepared meets s taken rest b) s.cell s.field p') (ledger_of (path ++ b ∷ []) rest more) key (first_further (length g.owners) value rest) more
+      → IsPublished w (stored_field (prepared meets s taken rest b) s.cell s.field p') g cells (first_owners (length g.puts) value (path ++ b ∷ []) rest ++ more) (put_at key value (length g.owners))
+  split_published meets s taken rest b more path p' parent c o is_path own not_head not_sparse absent small there fits split publishes reads leads news =
+      let start : List ℕ = path ++ b ∷ [] in let entry : ℕ = entry_of (length g.owners) value rest in let w1 : List ℕ = prepared meets s taken rest b in let w' : List ℕ = stored_field w1 s.cell s.field p' in
+      let whole : (path ++ b ∷ []) ++ rest ≡ key = append_assoc path (b ∷ []) rest ∙ is_path in let inside = own_inside g.owners s.cell o own in
+      let same1 = same_ready meets s taken start rest b whole in let t = turns meets s taken start rest b whole s.cell s.field p' inside small fits in let few_ = small_used meets s taken start rest b whole in
+      let better = better_entry w' (length g.owners) few_ entry rest reads in
+      let changes = changes_old w w1 w' g cells (first_owners (length g.puts) value start rest ++ more) (put_at key value (length g.owners)) 0 entry start rest wf same1 publishes whole better in
+      let root_same : root_of w' ≡ root_of w = root_stays w w' g s.cell s.field p' t wf.image.head (not_first g s.cell o wf.image.head own not_head) in
+      published_by w1 w' start rest more 0 entry start rest same1 publishes whole better
+      (by_byte w w' g cells wf.image key (length g.owners) 0 entry start rest whole better changes path b split.reached.last root_same split.reached.walks split.reached.last_path refl leads) (inl root_same)
+      (leaves_by w w' g s.cell s.field p' t there (λ q e. absent) (λ u j e. absent) (λ q e. absurd (let both : Some o ≡ Some (SparseCell q) = sym own ∙ e in let is : o ≡ SparseCell q = cc in not_sparse q is)))
+      (both_new w' (ledger_of start rest more) key (length g.owners) (first_further (length g.owners) value rest) (first_owners (length g.puts) value start rest) more (omega (arith, length_first_owners (length g.puts) value start rest))
+      (first_new w' (ledger_of start rest more) key (length g.owners) (length g.puts) value start rest whole) news)
+
+  pub leaf_published : (s : Stand) (taken : ℕ) (m : MetNoLeaf w g key s taken) → IsPublished w (stored_field (prepared NoLeaf s taken m.rest m.byte) s.cell s.field (32 * first_further (length g.owners) value m.rest + 28)) g cells
+      (first_owners (length g.puts) value (m.path ++ m.byte ∷ []) m.rest ++ further_owners w NoLeaf s m.path m.byte m.top (first_further (length g.owners) value m.rest)) (put_at key value (length g.owners))
+  leaf_published s taken m = let b : ℕ = m.byte in let rest : List ℕ = m.rest in let start : List ℕ = m.path ++ m.byte ∷ [] in let x : ℕ = first_further (length g.owners) value m.rest in let p' : ℕ = 32 * first_further (length g.owners) value m.rest + 28 in
+      let entry : ℕ = entry_of (length g.owners) value m.rest in let more : List Owner = further_owners w NoLeaf s m.path m.byte m.top (first_further (length g.owners) value m.rest) in let own = m.mid.own in let inside = own_inside g.owners s.cell (MidCell m.top (m.byte / 64)) own in
+      let whole : (m.path ++ m.byte ∷ []) ++ m.rest ≡ key = append_assoc m.path (m.byte ∷ []) m.rest ∙ m.whole in let near_ = near NoLeaf s taken start rest b whole in
+      let fits : 32 * first_further (length g.owners) value m.rest + 28 < 2 ^ 32 = omega (arith, near_) in let small : s.field < 8 = let e = m.place in omega arith in
+      let w1 : List ℕ = prepared NoLeaf s taken m.rest m.byte in let w' : List ℕ = stored_field w1 s.cell s.field p' in
+      let t = turns NoLeaf s taken start rest b whole s.cell s.field p' inside small fits in let reads = reads_now NoLeaf s taken start rest b whole s.cell s.field p' inside small fits in let more_stands = further_now NoLeaf s taken start rest b whole s.cell s.field p' inside small fits in
+      let here : field w' x (m.byte % 8) ≡ entry = lone_field w' x (m.byte % 8) entry more_stands (small_entry NoLeaf s taken start rest b whole) (m.byte % 8) (omega arith) refl in
+      let now : field w' s.cell (m.byte / 8 % 8) ≡ 32 * x + 28 = ap (λ (i : ℕ). field w' s.cell i) (sym m.place) ∙ turned_now w w' (length g.owners) s.cell s.field p' t in
+      split_published NoLeaf s taken rest b more m.path p' m.parent m.top (MidCell m.top (m.byte / 64)) m.whole own (λ z. cc) (λ q z. cc) m.absent small (λ z. omega arith) fits m.split
+      (leaf_put w w1 g cells (length g.owners) key value wf.image (same_ready NoLeaf s taken start rest b whole) refl counted room bytes s taken m (ready_stands NoLeaf s taken start rest b whole)) reads
+      (mid_leads w w' g s.cell s.field p' t m.path b m.parent m.top x entry m.split m.mid m.place refl here)
+      (one_more w' (ledger_of start rest more) key x (LeafCell m.top (m.byte / 64) (m.byte / 8 % 8)) [] (s.cell, get_front g.owners (first_owners (length g.puts) value start rest ++ more) s.cell (MidCell m.top (m.byte / 64)) own, omega arith, now) (none_new w' (ledger_of start rest more) key (x + 1)))
+
+  pub mid_published : (s : Stand) (taken : ℕ) (m : MetNoMid w g key s taken) → IsPublished w (stored_field (prepared NoMid s taken m.rest m.byte) s.cell s.field (32 * first_further (length g.owners) value m.rest + 28)) g cells
+      (first_owners (length g.puts) value (m.path ++ m.byte ∷ []) m.rest ++ further_owners w NoMid s m.path m.byte 0 (first_further (length g.owners) value m.rest)) (put_at key value (length g.owners))
+  mid_published s taken m = let b : ℕ = m.byte in let rest : List ℕ = m.rest in let start : List ℕ = m.path ++ m.byte ∷ [] in let x : ℕ = first_further (length g.owners) value m.rest in let p' : ℕ = 32 * first_further (length g.owners) value m.rest + 28 in
+      let entry : ℕ = entry_of (length g.owners) value m.rest in let more : List Owner = further_owners w NoMid s m.path m.byte 0 (first_further (length g.owners) value m.rest) in let own = m.split.own in let inside = own_inside g.owners s.cell (TopCell m.path) own in let small_b = m.split.small in
+      let whole : (m.path ++ m.byte ∷ []) ++ m.rest ≡ key = append_assoc m.path (m.byte ∷ []) m.rest ∙ m.whole in let near_ = near NoMid s taken start rest b whole in
+      let fits : 32 * first_further (length g.owners) value m.rest + 28 < 2 ^ 32 = omega (arith, near_) in let small : s.field < 8 = let e = m.place in omega arith in
+      let w1 : List ℕ = prepared NoMid s taken m.rest m.byte in let w' : List ℕ = stored_field w1 s.cell s.field p' in
+      let t = turns NoMid s taken start rest b whole s.cell s.field p' inside small fits in let reads = reads_now NoMid s taken start rest b whole s.cell s.field p' inside small fits in let more_stands = further_now NoMid s taken start rest b whole s.cell s.field p' inside small fits in
+      let mids : List ℕ = lone_words (m.byte / 8 % 8) (32 * (x + 1) + 28) in let leaves : List ℕ = lone_words (m.byte % 8) entry in
+      let middle : field w' x (m.byte / 8 % 8) ≡ 32 * (x + 1) + 28 = lone_field w' x (m.byte / 8 % 8) (32 * (x + 1) + 28) (stands_front w' x mids leaves more_stands) (omega (arith, near_)) (m.byte / 8 % 8) (omega arith) refl in
+      let here : field w' (x + 1) (m.byte % 8) ≡ entry = lone_field w' (x + 1) (m.byte % 8) entry (stands_back w' x 1 mids leaves refl more_stands) (small_entry NoMid s taken start rest b whole) (m.byte % 8) (omega arith) refl in
+      let now : field w' s.cell (m.byte / 64) ≡ 32 * x + 28 = ap (λ (i : ℕ). field w' s.cell i) (sym m.place) ∙ turned_now w w' (length g.owners) s.cell s.field p' t in
+      let own_mid : owner (ledger_of start rest more) x ≡ Some (MidCell s.cell (m.byte / 64)) = owner_first (ledger_of start rest more) x (MidCell s.cell (m.byte / 64)) (LeafCell s.cell (m.byte / 64) (m.byte / 8 % 8) ∷ []) (owned_more start rest more) in
+      split_published NoMid s taken rest b more m.path p' m.parent s.cell (TopCell m.path) m.whole own (λ z. cc) (λ q z. cc) m.absent small (λ z. omega arith) fits m.split
+      (mid_put w w1 g cells (length g.owners) key value wf.image (same_ready NoMid s taken start rest b whole) refl counted room bytes s taken 0 m (ready_stands NoMid s taken start rest b whole)) reads
+      (top_leads w w' g s.cell s.field p' t m.path b m.parent x (x + 1) entry m.split m.place refl middle here)
+      (one_more w' (ledger_of start rest more) key x (MidCell s.cell (m.byte / 64)) (LeafCell s.cell (m.byte / 64) (m.byte / 8 % 8) ∷ []) (omega arith, now, m.path, get_front g.owners (first_owners (length g.puts) value start rest ++ more) s.cell (TopCell m.path) own)
+      (one_more w' (ledger_of start rest more) key (x + 1) (LeafCell s.cell (m.byte / 64) (m.byte / 8 % 8)) [] (x, own_mid, omega arith, middle) (none_new w' (ledger_of start rest more) key (x + 1 + 1))))

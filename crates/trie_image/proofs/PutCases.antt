@@ -43,19 +43,12 @@ pub bytes_after : (path rest key : List ℕ) → path ++ rest ≡ key → AreByt
 bytes_after path rest key e h k = subst (λ (x : ℕ). x < 256) (sym (sym (get_or-append-add path rest k 0) ∙ ap (λ (l : List ℕ). slice_index l (length path + k)) e)) (h (length path + k))
 
 -- a node's pointer behind passed bytes
-pub over_node : (s : Stand) (x off : ℕ) → IsNode (32 * x + off) → s.entered ≤ s.at → x + 64 < 2 ^ 26 → IsNode (over_passed s x off)
+pub over_node : (s : Stand) (x off : ℕ) → (s.at ≡ s.entered → IsNode (32 * x + off)) → s.entered ≤ s.at → x + 64 < 2 ^ 26 → IsNode (over_passed s x off)
 over_node s x off is le low = by (s.at == s.entered) refl
   where
     by : (t : Bool) → (s.at == s.entered) ≡ t → IsNode (cond t (32 * x + off) (32 * (x + 1) + (28 - (s.at - s.entered))))
-    by true e = is
+    by true e = is (eqb-true s.at s.entered e)
     by false e = let ne = eqb-false s.at s.entered e in let o : (32 * (x + 1) + (28 - (s.at - s.entered))) % 32 ≤ 27 = omega arith in inl (is_chain (32 * (x + 1) + (28 - (s.at - s.entered))) (λ z. omega arith) (omega arith) o)
-
-pub over_chain : (s : Stand) (x off : ℕ) → s.at ≢ s.entered → s.entered ≤ s.at → x + 64 < 2 ^ 26 → IsNode (over_passed s x off)
-over_chain s x off ne le low = by (s.at == s.entered) refl
-  where
-    by : (t : Bool) → (s.at == s.entered) ≡ t → IsNode (cond t (32 * x + off) (32 * (x + 1) + (28 - (s.at - s.entered))))
-    by true e = absurd (ne (eqb-true s.at s.entered e))
-    by false e = let o : (32 * (x + 1) + (28 - (s.at - s.entered))) % 32 ≤ 27 = omega arith in inl (is_chain (32 * (x + 1) + (28 - (s.at - s.entered))) (λ z. omega arith) (omega arith) o)
 
 -- a node's pointer is below 2^31, and a content pointer isn't
 node_below : (p : ℕ) → IsNode p → p < 2 ^ 31
@@ -122,7 +115,7 @@ module _ (w w1 : List ℕ) (g : Ledger) (cells used : ℕ) (key value : List ℕ
       m.is_node d.at_content (content_kind [] used (omega (arith, d.few))) d.owned (further_stands w w1 used (slice_index w 0 + 1) value [] (exit_with End s taken) b h) in
       let later : s.entered ≤ s.at = omega (arith, st.forward) in let bare = m.bare in
       publish key [] (further_owners w End s key b t (first_further used value [])) d m.home_path m.inside key (over_passed s (first_further used value []) 31) st (d.image new.0) new.1 record {
-        at_node = λ own z. over_chain s (first_further used value []) 31 (λ e. bare e m.home_path own) later d.near;
+        at_node = λ own z. over_node s (first_further used value []) 31 (λ e. absurd (bare e m.home_path own)) later d.near;
         at_content = λ own z. let c = held_content m.home_path m.inside key st own z in let above = content_above s.entered c.0 in absurd (omega arith);
       }
 
@@ -134,7 +127,7 @@ module _ (w w1 : List ℕ) (g : Ledger) (cells used : ℕ) (key value : List ℕ
       m.byte m.is_chain m.other small d.at_entry d.owned (further_stands w w1 used (slice_index w 0 + 1) value m.rest (exit_with OtherByte s taken) m.byte h) in
       let later : s.entered ≤ s.at = omega (arith, st.forward) in
       publish (m.path ++ m.byte ∷ []) m.rest (further_owners w OtherByte s m.path m.byte t (first_further used value m.rest)) d m.home_path m.inside m.path (over_passed s (first_further used value m.rest) 30) st (d.image new.0) new.1 record {
-        at_node = λ own z. over_node s (first_further used value m.rest) 30 (inr (inl (offset_is (first_further used value m.rest) 30 d.low d.near (omega arith)))) later d.near;
+        at_node = λ own z. over_node s (first_further used value m.rest) 30 (λ _. inr (inl (offset_is (first_further used value m.rest) 30 d.low d.near (omega arith)))) later d.near;
         at_content = λ own z. let c = held_content m.home_path m.inside m.path st own z in let above = content_above s.entered c.0 in absurd (omega arith);
       }
 
