@@ -59,7 +59,7 @@ module _ (w : List ℕ) (g : Ledger) (cells : ℕ) (ok : IsImage w g cells) (s :
 
   still_chain : s.at ≢ s.entered → IsNode s.at → kind_at s.at ≡ Some kind.Chain
   still_chain ne (inl k) = k
-  still_chain ne (inr (inl k)) = let o = sparse_of g s.at path at_path k in  
+  still_chain ne (inr (inl k)) = let o = sparse_of g s.at path at_path k in
       absurd (ne (sym (sparse_alone g s.entered s.at q path (there (SparseCell path) o (λ x. cc)) (sym same_cell) k (subst (λ (c : ℕ). owner g c ≡ Some (SparseCell path)) same_cell o))))
   still_chain ne (inr (inr k)) = let o = wide_of g s.at path at_path k in
       absurd (ne (sym (wide_alone g s.entered s.at q path (there (TopCell path) o (λ x. cc)) (sym same_cell) k (subst (λ (c : ℕ). owner g c ≡ Some (TopCell path)) same_cell o))))

@@ -77,7 +77,6 @@ module _ (g' : Ledger) (n used : ℕ) (put : Put) (start rest : List ℕ) (more 
       by : (r : List ℕ) → r ≢ [] → rest ≡ r → (HasPath g' (entry_of used put.value rest) start) × (kind_at (entry_of used put.value rest) ≡ Some kind.Chain)
       by [] ne e = absurd (ne refl)
       by (b ∷ r) ne e = let long : 1 ≤ length rest = let l = ap (λ (x : List ℕ). length x) e in omega (arith, l) in
-
           let more_ : suc (chain_cells (length rest) - 1) ≡ chain_cells (length rest) = omega arith in
           let is : entry_of used put.value rest ≡ 32 * (used + record_cells (length put.value)) + (28 * chain_cells (length rest) - length rest) =
           cond-false (length rest == 0) (content_of used) (32 * (used + record_cells (length put.value)) + (28 * chain_cells (length rest) - length rest)) (ne_eqb (length rest) 0 (λ z. omega arith)) in

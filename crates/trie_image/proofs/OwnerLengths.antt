@@ -85,6 +85,12 @@ few_publish w PastContent s b entry p = (omega arith, omega arith)
 -- so the number of stores tells the number of new cells
 pub stores_taken : (w : List ℕ) (used n : ℕ) (value start rest : List ℕ) (e : Exit) (b t : ℕ) (path : List ℕ) → (length (stores_from w used value rest e b) - 2) / 4 ≡ length (first_owners n value start rest ++ further_owners w e.meets e.stand path b t (first_further used value rest))
 stores_taken w used n value start rest e b t path = let publish = few_publish w e.meets e.stand b (entry_of used value rest) (published e.meets e.stand (first_further used value rest) (content_of used) (entry_of used value rest)) in
-    omega (arith, length-append (prepares (4 * used) (body_words w used (slice_index w 0 + 1) value rest e b) ++ publish_stores w e.meets e.stand b (entry_of used value rest) (published e.meets e.stand (first_further used value rest) (content_of used) (entry_of used value rest))) (store_at 0 (slice_index w 0 + 1) Finish ∷ []),
-    length-append (prepares (4 * used) (body_words w used (slice_index w 0 + 1) value rest e b)) (publish_stores w e.meets e.stand b (entry_of used value rest) (published e.meets e.stand (first_further used value rest) (content_of used) (entry_of used value rest))),
-    length_prepares (4 * used) (body_words w used (slice_index w 0 + 1) value rest e b), as_many w used (slice_index w 0 + 1) n value start rest e b t path, publish.0, publish.1)
+    omega (
+      arith,
+      length-append (prepares (4 * used) (body_words w used (slice_index w 0 + 1) value rest e b) ++ publish_stores w e.meets e.stand b (entry_of used value rest) (published e.meets e.stand (first_further used value rest) (content_of used) (entry_of used value rest))) (store_at 0 (slice_index w 0 + 1) Finish ∷ []),
+      length-append (prepares (4 * used) (body_words w used (slice_index w 0 + 1) value rest e b)) (publish_stores w e.meets e.stand b (entry_of used value rest) (published e.meets e.stand (first_further used value rest) (content_of used) (entry_of used value rest))),
+      length_prepares (4 * used) (body_words w used (slice_index w 0 + 1) value rest e b),
+      as_many w used (slice_index w 0 + 1) n value start rest e b t path,
+      publish.0,
+      publish.1,
+    )
