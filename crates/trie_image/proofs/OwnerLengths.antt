@@ -1,5 +1,5 @@
 -- A put's new owners are as many as its new cells.
-use Rattle.std.proofs.Common.{◌≡◌, ℕ, ◌+◌, ◌-◌, ◌*◌, ◌/◌, ◌%◌, ◌==◌, Bool, true, false, cond, List, [], ◌∷◌, ◌++◌, length, filter, refl, arith, length-append}
+use Rattle.std.proofs.Common.{◌≡◌, ℕ, suc, ◌+◌, ◌-◌, ◌*◌, ◌/◌, ◌%◌, ◌≤◌, ◌==◌, Bool, true, false, cond, List, [], ◌∷◌, ◌++◌, length, filter, slice_index, refl, ap, arith, length-append}
 use Rattle.std.specs.List.{range_with_len}
 use Rattle.trie_image.specs.declared.Owner.TheVariants.{ChainCell, TopCell, MidCell, LeafCell}
 use Rattle.trie_image.specs.declared.exit.Stand.{Stand}
@@ -8,8 +8,9 @@ use Rattle.trie_image.specs.declared.exit.Meets.TheVariants.{Content, Nothing, O
 use Rattle.trie_image.specs.declared.exit.Exit.{Exit}
 use Rattle.trie_image.specs.Image.{word_of, cell_byte}
 use Rattle.trie_image.specs.Cell.{record_cells}
-use Rattle.trie_image.specs.Body.{record_words, chain_cell, chain_cells, chain_from, passed_bytes, passed_words, chain_rest, split_words, prefix_words, seven, has_mid, has_leaf, mid_field, leaf_field, top_words, mid_words, leaf_words, further}
-use Rattle.trie_image.specs.Stores.{content_of, entry_of, first_further, body_words}
+use Rattle.trie_image.specs.Body.{record_words, chain_cell, chain_cells, chain_from, passed_bytes, passed_words, chain_rest, split_words, prefix_words, seven, has_mid, has_leaf, mid_field, leaf_field, top_words, mid_words, leaf_words, further, published}
+use Rattle.trie_image.specs.Stores.{store_at, prepares, content_of, entry_of, first_further, body_words, publish_stores, stores_from}
+use Rattle.trie_image.specs.declared.StoreKind.TheVariants.{Finish}
 use Rattle.trie_image.proofs.BodyLengths.{length_chain, length_eights, length_split}
 use Rattle.trie_image.proofs.NewCells.{length_record_words}
 use Rattle.trie_image.proofs.NewWide.{mid_owners, leaf_owners, wide_owners}
@@ -63,4 +64,33 @@ as_many w used number n value start rest e b t path = let words : List ℕ = rec
       length_further_owners w e.meets e.stand path b t (first_further used value rest) (content_of used) (entry_of used value rest),
       length-append (first_owners n value start rest) (further_owners w e.meets e.stand path b t (first_further used value rest)),
       length_first_owners n value start rest,
+    )
+
+length_prepares : (at : ℕ) (ws : List ℕ) → length (prepares at ws) ≡ length ws
+length_prepares at [] = refl
+length_prepares at (x ∷ ws) = ap (λ (n : ℕ). suc n) (length_prepares (at + 1) ws)
+
+-- one store or two make the new cells reachable
+few_publish : (w : List ℕ) (m : Meets) (s : Stand) (b entry p : ℕ) → (1 ≤ length (publish_stores w m s b entry p)) × (length (publish_stores w m s b entry p) ≤ 2)
+few_publish w Sparse s b entry p = (omega arith, omega arith)
+few_publish w Content s b entry p = (omega arith, omega arith)
+few_publish w Nothing s b entry p = (omega arith, omega arith)
+few_publish w OtherByte s b entry p = (omega arith, omega arith)
+few_publish w End s b entry p = (omega arith, omega arith)
+few_publish w Full s b entry p = (omega arith, omega arith)
+few_publish w NoLeaf s b entry p = (omega arith, omega arith)
+few_publish w NoMid s b entry p = (omega arith, omega arith)
+few_publish w PastContent s b entry p = (omega arith, omega arith)
+
+-- so the number of stores tells the number of new cells
+pub stores_taken : (w : List ℕ) (used n : ℕ) (value start rest : List ℕ) (e : Exit) (b t : ℕ) (path : List ℕ) → (length (stores_from w used value rest e b) - 2) / 4 ≡ length (first_owners n value start rest ++ further_owners w e.meets e.stand path b t (first_further used value rest))
+stores_taken w used n value start rest e b t path = let publish = few_publish w e.meets e.stand b (entry_of used value rest) (published e.meets e.stand (first_further used value rest) (content_of used) (entry_of used value rest)) in
+    omega (
+      arith,
+      length-append (prepares (4 * used) (body_words w used (slice_index w 0 + 1) value rest e b) ++ publish_stores w e.meets e.stand b (entry_of used value rest) (published e.meets e.stand (first_further used value rest) (content_of used) (entry_of used value rest))) (store_at 0 (slice_index w 0 + 1) Finish ∷ []),
+      length-append (prepares (4 * used) (body_words w used (slice_index w 0 + 1) value rest e b)) (publish_stores w e.meets e.stand b (entry_of used value rest) (published e.meets e.stand (first_further used value rest) (content_of used) (entry_of used value rest))),
+      length_prepares (4 * used) (body_words w used (slice_index w 0 + 1) value rest e b),
+      as_many w used (slice_index w 0 + 1) n value start rest e b t path,
+      publish.0,
+      publish.1,
     )
