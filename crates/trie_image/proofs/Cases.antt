@@ -109,7 +109,7 @@ module _ (w w' : List ℕ) (g : Ledger) (cells : ℕ) (ok : IsImage w g cells) (
 
   pub other_better : (key : List ℕ) (taken : ℕ) (m : MetOtherByte w g key s taken) → m.byte < 256 → Stands w' x (split_words (cell_byte w (s.at / 32) (s.at % 32)) (chain_rest w s.at) m.byte entry ++ passed_words w s (32 * x + 30)) → Reads (reading w') entry m.rest (content_of used)
       → Better (reading w') s.entered (over_passed s x 30) (m.inside ++ m.byte ∷ m.rest) used
-  other_better key taken m sb h reads = let st = m.stands in let k = m.is_chain in let at : ℕ = s.at in let old : ℕ = cell_byte w (s.at / 32) (s.at % 32) in
+  other_better key taken m sb h reads = let st = m.stands in let k = m.is_chain in let old : ℕ = cell_byte w (s.at / 32) (s.at % 32) in
       let offset : (s.at ≢ 0) × (s.at < 2 ^ 31) × (s.at % 32 ≤ 27) = is_kind s.at (Some kind.Chain) k in
       let same = chain_same m.home_path m.inside m.path st k in let byte : cell_byte w' (s.at / 32) (s.at % 32) ≡ old = same_byte w w' (s.at / 32) (s.at % 32) same (omega (arith, offset.2)) in
       let rest_same : chain_rest w' s.at ≡ chain_rest w s.at = ap (λ (y : ℕ). cond (s.at % 32 == 27) y (cond (nat_lt (s.at % 32) 27) (s.at + 1) 0)) (same_field w w' (s.at / 32) 7 same (omega arith)) in

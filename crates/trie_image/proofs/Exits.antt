@@ -24,8 +24,9 @@ use Rattle.trie_image.proofs.Owners.{chain_of, sparse_of, wide_of, prefix_of, pa
 use Rattle.trie_image.proofs.Children.{closed}
 use Rattle.trie_image.proofs.Betters.{reads_on}
 use Rattle.trie_image.proofs.Live.{Walks}
+use Rattle.trie_image.proofs.CellWords.{AreBytes}
 use Rattle.trie_image.proofs.Homes.{Over, itself, by_prefix, Reaches, IsMidUnder, IsSplitAt, Home, root, tail, slot, leaf, content, node}
-use Rattle.trie_image.proofs.Leaves.{AreBytes, StandsAt, LeavesBy, Leaves}
+use Rattle.trie_image.proofs.Leaves.{StandsAt, LeavesBy, Leaves}
 
 add_zero : (n : ℕ) → n ≡ n + 0
 add_zero n = omega arith
@@ -273,8 +274,8 @@ module _ (w : List ℕ) (g : Ledger) (cells : ℕ) (ok : IsImage w g cells) wher
     exits [] s q m path taken bytes here whole so_far = let same : path ≡ key = sym (append-nil path) ∙ whole in
         ends s q m taken (subst (λ (x : List ℕ). Here q m x s) same here) (so_far ∙ ap (λ (x : List ℕ). length x) same) (kind_at s.at) refl
     exits (b ∷ k) s q m path taken bytes here whole so_far = goes path taken b k whole so_far
-        (λ next q' m' there. exits k next q' m' (path ++ b ∷ []) (taken + 1) (λ i x e. bytes (suc i) x e) there (append_assoc path (b ∷ []) k ∙ whole) (omega (arith, length-append path (b ∷ []))))
-        (byte_step w b s (kind_at s.at)) (byte_steps path taken b (bytes 0 b refl) s q m here (kind_at s.at) refl)
+        (λ next q' m' there. exits k next q' m' (path ++ b ∷ []) (taken + 1) (λ i. bytes (suc i)) there (append_assoc path (b ∷ []) k ∙ whole) (omega (arith, length-append path (b ∷ []))))
+        (byte_step w b s (kind_at s.at)) (byte_steps path taken b (bytes 0) s q m here (kind_at s.at) refl)
 
     -- the end of the walk to the key
     pub leaves : AreBytes key → Leaves w g key (exit_of w key)

@@ -40,7 +40,7 @@ use Rattle.trie_image.proofs.Left.{still_stand}
 use Rattle.trie_image.proofs.Ready.{ready, body, first_cell, few, further_near, below, same, stands, long, owned_record}
 use Rattle.trie_image.proofs.Seen.{by_byte}
 use Rattle.trie_image.proofs.NewSplits.{AreNewOwners, none_new, both_new, first_new}
-use Rattle.trie_image.proofs.Whole.{Leaves, IsRecorded, changes_old, law, well_formed, places_kept}
+use Rattle.trie_image.proofs.Whole.{KeepsCells, IsRecorded, changes_old, law, well_formed, places_kept}
 
 module _ (w : List ℕ) (g : Ledger) (cells : ℕ) (key value : List ℕ) (ok : IsWellFormed w g cells) (room : length g.owners + cost (length key) (length value) ≤ cells) (bytes : AreBytes key) (s : Stand) (taken : ℕ) (m : MetSparse w g key s taken) (short : length m.rest ≤ length key) where
   -- the words after the new cells, after the free slot, and after the order word
@@ -142,7 +142,7 @@ module _ (w : List ℕ) (g : Ledger) (cells : ℕ) (key value : List ℕ) (ok : 
       subst (λ (x : ℕ). slot_at (word_of ordered x 3) b ≡ Some n) z (ap (λ (x : ℕ). slot_at x b) order_is ∙ (added_old (word_of w s.cell 3) (word_with (word_of w s.cell 3) m.byte) m.byte b adds.bytes ne ∙ here)))
       (λ (ne : s.cell ≢ c). let h = same_before.cells c (SparseCell q) e in ap (λ (x : ℕ). slot_at x b) (apart c (λ z. ne (sym z)) 3 (omega arith) ∙ h.0) ∙ is) (cases_eq s.cell c)
 
-  left : Leaves w ordered g
+  left : KeepsCells w ordered g
   left = record {
     tops = λ c i q e l ne. full c i (same_before.cells c (TopCell q) e) (apart_own c (TopCell q) e (λ x. cc)) l;
     mids = λ c t j i e l ne. full c i (same_before.cells c (MidCell t j) e) (apart_own c (MidCell t j) e (λ x. cc)) l;

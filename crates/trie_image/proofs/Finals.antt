@@ -42,7 +42,7 @@ use Rattle.trie_image.proofs.WideOwners.{wide_new}
 use Rattle.trie_image.proofs.Turned.{Turned, turned_now, mid_leads, top_leads, root_stays}
 use Rattle.trie_image.proofs.Published.{better_entry}
 use Rattle.trie_image.proofs.Seen.{by_home, by_byte}
-use Rattle.trie_image.proofs.Whole.{Leaves, IsRecorded, changes_old, law, well_formed, places_kept}
+use Rattle.trie_image.proofs.Whole.{KeepsCells, IsRecorded, changes_old, law, well_formed, places_kept}
 use Rattle.trie_image.proofs.Left.{home_leaves, home_root, leaves_by}
 use Rattle.trie_image.proofs.Ready.{first_cell, few, further_near, same, stands, turned, stands_after, owned_record}
 use Rattle.trie_image.proofs.PutCases.{content_put, nothing_put, other_put, end_put, full_put, leaf_put, mid_put, past_put, bytes_after, over_node}
@@ -58,10 +58,10 @@ module _ (w : List ℕ) (g : Ledger) (cells : ℕ) (key value : List ℕ) (wf : 
 
   -- from what the store leaves, and the better pointer, to the image with the put
   published_by : (w1 w' : List ℕ) (value_start rest : List ℕ) (more : List Owner) (p p' : ℕ) (h rest' : List ℕ) (same1 : IsSame w w1 g) (publishes : Publishes w1 w' (grown g (first_owners (length g.puts) value value_start rest ++ more) (put_at key value (length g.owners) ∷ [])) cells p p' h key (length g.owners))
-      (is_key : h ++ rest' ≡ key) (better : Better (reading w') p p' rest' (length g.owners)) → sees_from (reading w') (root_of w') key ≡ Some (length g.owners) → (root_of w' ≡ root_of w) ⊎ ((root_of w ≡ p) × (root_of w' ≡ p') × (h ≡ [])) → Leaves w w' g
+      (is_key : h ++ rest' ≡ key) (better : Better (reading w') p p' rest' (length g.owners)) → sees_from (reading w') (root_of w') key ≡ Some (length g.owners) → (root_of w' ≡ root_of w) ⊎ ((root_of w ≡ p) × (root_of w' ≡ p') × (h ≡ [])) → KeepsCells w w' g
       → AreNewOwners w' (grown g (first_owners (length g.puts) value value_start rest ++ more) (put_at key value (length g.owners) ∷ [])) key (length g.owners) (first_owners (length g.puts) value value_start rest ++ more)
       → IsPublished w w' g cells (first_owners (length g.puts) value value_start rest ++ more) (put_at key value (length g.owners))
-  published_by w1 w' start rest more p p' h rest' same1 publishes is_key better seen turns left news = let own : List Owner = first_owners (length g.puts) value start rest ++ more in
+  published_by w1 w' start rest more p p' h rest' same1 publishes is_key better seen turns left news =
       let recorded : IsRecorded (grown g (first_owners (length g.puts) value start rest ++ more) (put_at key value (length g.owners) ∷ [])) (length g.puts) (put_at key value (length g.owners)) = record { cells = λ j l. owned_record g value start rest more (put_at key value (length g.owners)) j l; key = (least, most); value = short_value } in record {
         well_formed = well_formed w w1 w' g cells (first_owners (length g.puts) value start rest ++ more) (put_at key value (length g.owners)) p p' h rest' wf same1 publishes is_key better seen turns left news recorded;
         pointers = law w w1 w' g cells (first_owners (length g.puts) value start rest ++ more) (put_at key value (length g.owners)) p p' h rest' wf same1 publishes is_key better;
@@ -94,7 +94,7 @@ module _ (w : List ℕ) (g : Ledger) (cells : ℕ) (key value : List ℕ) (wf : 
       → AreNewOwners (stored_field (prepared meets s taken rest b) s.cell s.field p') (ledger_of start rest more) key (first_further (length g.owners) value rest) more
       → IsPublished w (stored_field (prepared meets s taken rest b) s.cell s.field p') g cells (first_owners (length g.puts) value start rest ++ more) (put_at key value (length g.owners))
   home_published meets s taken start rest b more q m path rest' p' whole st there fits publishes is_key better at_node at_content news =
-      let w1 : List ℕ = prepared meets s taken rest b in let w' : List ℕ = stored_field w1 s.cell s.field p' in let e = exit_with meets s taken in let l = home_inside q s.cell s.field st.home in let sh = short start rest whole in
+      let w1 : List ℕ = prepared meets s taken rest b in let w' : List ℕ = stored_field w1 s.cell s.field p' in let l = home_inside q s.cell s.field st.home in let sh = short start rest whole in
       let same1 : IsSame w (prepared meets s taken rest b) g = same w g cells key value wf.image room (exit_with meets s taken) rest b sh in
       let t : Turned w (stored_field (prepared meets s taken rest b) s.cell s.field p') (length g.owners) s.cell s.field p' = turned w g cells key value wf.image room (exit_with meets s taken) rest b sh s.cell s.field p' l.0 l.1 fits in
       let changes = changes_old w w1 w' g cells (first_owners (length g.puts) value start rest ++ more) (put_at key value (length g.owners)) s.entered p' q rest' wf same1 publishes is_key better in
@@ -164,7 +164,7 @@ module _ (w : List ℕ) (g : Ledger) (cells : ℕ) (key value : List ℕ) (wf : 
       further_now = further_stands w (stored_field (prepared meets s taken rest b) cell place p') (length g.owners) (slice_index w 0 + 1) value rest (exit_with meets s taken) b stands_now
 
   pub content_published : (s : Stand) (taken b : ℕ) (m : MetContent w g key s) → IsPublished w (stored_field (prepared Content s taken [] b) s.cell s.field (content_of (length g.owners))) g cells (first_owners (length g.puts) value key [] ++ []) (put_at key value (length g.owners))
-  content_published s taken b m = let st = m.stands in let p' : ℕ = content_of (length g.owners) in let l = home_inside key s.cell s.field st.home in let whole = append-nil key in
+  content_published s taken b m = let st = m.stands in let l = home_inside key s.cell s.field st.home in let whole = append-nil key in
       let fits : content_of (length g.owners) < 2 ^ 32 = omega arith in let few_ = small_used Content s taken key [] b whole in
       let t = turns Content s taken key [] b whole s.cell s.field (content_of (length g.owners)) l.0 l.1 fits in
       home_published Content s taken key [] b [] key [] key [] (content_of (length g.owners)) whole st (content_there w (length g.owners) few_) fits

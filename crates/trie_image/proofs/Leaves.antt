@@ -14,10 +14,6 @@ use Rattle.trie_image.specs.Image.{word_of, field, cell_byte, reading}
 use Rattle.trie_image.specs.Paths.{owner, HasPath}
 use Rattle.trie_image.proofs.Homes.{Reaches, IsMidUnder, IsSplitAt, Home}
 
--- all below 256
-abbrev pub AreBytes : List ℕ → Type 0
-AreBytes k = (i b : ℕ) → slice_get k i ≡ Some b → b < 256
-
 module _ (w : List ℕ) (g : Ledger) where
   -- the walk stands in a field whose pointer has path q, after the bytes m of the pointer's chain cell; path is all that
   -- was passed

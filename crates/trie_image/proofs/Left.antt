@@ -15,7 +15,7 @@ use Rattle.trie_image.proofs.CellWords.{Stands}
 use Rattle.trie_image.proofs.HomeStores.{stored_field}
 use Rattle.trie_image.proofs.Homes.{Home, root, tail, slot, leaf, content, node}
 use Rattle.trie_image.proofs.Turned.{Turned, same_apart, turned_now, turned_other, third_stays, root_turned, root_stays}
-use Rattle.trie_image.proofs.Whole.{Leaves}
+use Rattle.trie_image.proofs.Whole.{KeepsCells}
 
 -- the words below the new cells
 abbrev pub SameBelow : List ℕ → List ℕ → ℕ → Type 0
@@ -54,7 +54,7 @@ module _ (w w' : List ℕ) (g : Ledger) (cell place p' : ℕ) (t : Turned w w' (
   order_stays c q e = ⊎_elim (λ (z : c ≡ cell). subst (λ (x : ℕ). word_of w' x 3 ≡ word_of w x 3) (sym z) (third_stays w w' (length g.owners) cell place p' t (in_slot q (subst (λ (x : ℕ). owner g x ≡ Some (SparseCell q)) z e))))
       (λ (d : c ≢ cell). same_apart w w' (length g.owners) cell place p' t c (own_inside g.owners c (SparseCell q) e) d 3 (omega arith)) (cases_eq c cell)
 
-  pub leaves_by : Leaves w w' g
+  pub leaves_by : KeepsCells w w' g
   leaves_by = record {
     tops = λ c i q e s ne. stays_full c i (own_inside g.owners c (TopCell q) e) s (λ z. top_hole q (subst (λ (x : ℕ). owner g x ≡ Some (TopCell q)) z e)) ne;
     mids = λ c u j i e s ne. stays_full c i (own_inside g.owners c (MidCell u j) e) s (λ z. mid_hole u j (subst (λ (x : ℕ). owner g x ≡ Some (MidCell u j)) z e)) ne;
@@ -100,7 +100,7 @@ module _ (w w' : List ℕ) (g : Ledger) (cells : ℕ) (ok : IsImage w g cells) (
   outer : (o : Owner) → owner g cell ≡ Some o → IsOuter o
   outer o e = home_owner IsOuter tt (λ from. tt) (λ r. tt) (λ u i j. tt) tt o e
 
-  pub home_leaves : p' ≢ 0 → Leaves w w' g
+  pub home_leaves : p' ≢ 0 → KeepsCells w w' g
   home_leaves there = leaves_by w w' g cell place p' t there (λ r e. absurd (outer (TopCell r) e)) (λ u j e. absurd (outer (MidCell u j) e)) home_slot
 
   -- the root

@@ -43,7 +43,6 @@ pub mod Splits
 pub mod Published
 pub mod Wides
 pub mod Stored
-pub mod Lives
 pub mod Turned
 pub mod Seen
 pub mod Cases

@@ -16,6 +16,7 @@ use Rattle.trie_image.proofs.Grown.{get_either}
 use Rattle.trie_image.proofs.Owners.{get_front, grown}
 use Rattle.trie_image.proofs.NewChains.{chain_owners}
 use Rattle.trie_image.proofs.NewCells.{record_owners, get_mapped}
+use Rattle.trie_image.proofs.Mapped.{get_new}
 use Rattle.trie_image.proofs.NewOwners.{passed_owners, first_owners}
 
 -- the path leads towards the key
@@ -65,6 +66,11 @@ module _ (w : List ℕ) (g : Ledger) (key : List ℕ) where
   pub passed_new : (c : ℕ) (s : Stand) (path : List ℕ) → Towards key path → AreNewOwners w g key c (passed_owners s path)
   passed_new c s path h = cond_both (s.at == s.entered) [] (ChainCell (28 - (s.at - s.entered)) path ∷ []) (λ (l : List Owner). AreNewOwners w g key c l) (λ e. none_new c) (λ e. one_more c (ChainCell (28 - (s.at - s.entered)) path) [] h (none_new (c + 1)))
 
+-- a cell is an old one, or new with what is said of it
+module _ (w' : List ℕ) (g : Ledger) (own : List Owner) (put : Put) (news : AreNewOwners w' (grown g own (put ∷ [])) put.key (length g.owners) own) where
+  old_or_new : (c : ℕ) (o : Owner) → owner (grown g own (put ∷ [])) c ≡ Some o → (owner g c ≡ Some o) ⊎ IsNewOwner w' (grown g own (put ∷ [])) put.key c o
+  old_or_new c o e = ⊎_elim (λ t. inl t) (λ (t : (j : ℕ) × (c ≡ length g.owners + j) × (slice_get own j ≡ Some o)). inr (subst (λ (x : ℕ). IsNewOwner w' (grown g own (put ∷ [])) put.key x o) (sym t.1) (news t.0 o t.2))) (get_either g.owners own c o e)
+
 -- each path leads towards the key of a put
 module _ (w w' : List ℕ) (g : Ledger) (own : List Owner) (put : Put) (news : AreNewOwners w' (grown g own (put ∷ [])) put.key (length g.owners) own) (old : (p : ℕ) (q : List ℕ) → HasPath g p q → (n : ℕ) × (e : Put) × (rest : List ℕ) × (slice_get g.puts n ≡ Some e) × (e.key ≡ q ++ rest)) where
   abbrev Leads : List ℕ → Type 0
@@ -73,26 +79,18 @@ module _ (w w' : List ℕ) (g : Ledger) (own : List Owner) (put : Put) (news : A
   by_old : (p : ℕ) (q : List ℕ) → HasPath g p q → Leads q
   by_old p q at = let h = old p q at in (h.0, h.1, h.2, get_front g.puts (put ∷ []) h.0 h.1 h.3, h.4)
 
-  new_put : (l : List Put) → slice_get (l ++ put ∷ []) (length l) ≡ Some put
-  new_put [] = refl
-  new_put (x ∷ l) = new_put l
-
   by_new : (q : List ℕ) → Towards put.key q → Leads q
-  by_new q h = (length g.puts, put, h.0, new_put g.puts, sym h.1)
-
-  -- a cell is an old one, or new with what is said of it
-  old_or_new : (c : ℕ) (o : Owner) → owner (grown g own (put ∷ [])) c ≡ Some o → (owner g c ≡ Some o) ⊎ IsNewOwner w' (grown g own (put ∷ [])) put.key c o
-  old_or_new c o e = ⊎_elim (λ t. inl t) (λ (t : (j : ℕ) × (c ≡ length g.owners + j) × (slice_get own j ≡ Some o)). inr (subst (λ (x : ℕ). IsNewOwner w' (grown g own (put ∷ [])) put.key x o) (sym t.1) (news t.0 o t.2))) (get_either g.owners own c o e)
+  by_new q h = (length g.puts, put, h.0, get_new g.puts put, sym h.1)
 
   front_of : (n : ℕ) (t : List ℕ) → Towards put.key t → Towards put.key (take n t)
   front_of n t h = (drop n t ++ h.0, sym (append_assoc (take n t) (drop n t) h.0) ∙ (ap (λ (l : List ℕ). l ++ h.0) (take-append-drop n t) ∙ h.1))
 
   pub paths_lead : (p : ℕ) (q : List ℕ) → HasPath (grown g own (put ∷ [])) p q → Leads q
   paths_lead p q (at_content n e k o h s) = (n, e, [], h, sym s ∙ sym (append-nil q))
-  paths_lead p q (at_chain from t k o h s) = ⊎_elim (λ (e : owner g (p / 32) ≡ Some (ChainCell from t)). by_old p q (at_chain from t k e h s)) (λ (e : Towards put.key t). subst Leads (sym s) (by_new (chain_path t (p % 32)) (front_of (length t + p % 32 - 28) t e))) (old_or_new (p / 32) (ChainCell from t) o)
-  paths_lead p q (at_sparse k o) = ⊎_elim (λ (e : owner g (p / 32) ≡ Some (SparseCell q)). by_old p q (at_sparse k e)) (λ (e : Towards put.key q). by_new q e) (old_or_new (p / 32) (SparseCell q) o)
-  paths_lead p q (at_wide k o) = ⊎_elim (λ (e : owner g (p / 32) ≡ Some (TopCell q)). by_old p q (at_wide k e)) (λ (e : Towards put.key q × (b : ℕ) × (b < 256) × (split_child w' (p / 32) b ≢ 0)). by_new q e.0) (old_or_new (p / 32) (TopCell q) o)
-  paths_lead p q (at_prefix k o) = ⊎_elim (λ (e : owner g (p / 32) ≡ Some (PrefixCell q)). by_old p q (at_prefix k e)) (λ (e : Towards put.key q). by_new q e) (old_or_new (p / 32) (PrefixCell q) o)
+  paths_lead p q (at_chain from t k o h s) = ⊎_elim (λ (e : owner g (p / 32) ≡ Some (ChainCell from t)). by_old p q (at_chain from t k e h s)) (λ (e : Towards put.key t). subst Leads (sym s) (by_new (chain_path t (p % 32)) (front_of (length t + p % 32 - 28) t e))) (old_or_new w' g own put news (p / 32) (ChainCell from t) o)
+  paths_lead p q (at_sparse k o) = ⊎_elim (λ (e : owner g (p / 32) ≡ Some (SparseCell q)). by_old p q (at_sparse k e)) (λ (e : Towards put.key q). by_new q e) (old_or_new w' g own put news (p / 32) (SparseCell q) o)
+  paths_lead p q (at_wide k o) = ⊎_elim (λ (e : owner g (p / 32) ≡ Some (TopCell q)). by_old p q (at_wide k e)) (λ (e : Towards put.key q × (b : ℕ) × (b < 256) × (split_child w' (p / 32) b ≢ 0)). by_new q e.0) (old_or_new w' g own put news (p / 32) (TopCell q) o)
+  paths_lead p q (at_prefix k o) = ⊎_elim (λ (e : owner g (p / 32) ≡ Some (PrefixCell q)). by_old p q (at_prefix k e)) (λ (e : Towards put.key q). by_new q e) (old_or_new w' g own put news (p / 32) (PrefixCell q) o)
 
 -- the split nodes: pointers in top and mid cells stay, and pointers in leaf cells stay pointers
 module _ (w w' : List ℕ) (g : Ledger) (cells : ℕ) (ok : IsImage w g cells) (own : List Owner) (put : Put) (news : AreNewOwners w' (grown g own (put ∷ [])) put.key (length g.owners) own) (split : HasSplitNodes w g)
@@ -100,9 +98,6 @@ module _ (w w' : List ℕ) (g : Ledger) (cells : ℕ) (ok : IsImage w g cells) (
     (leaves : (c t i j n : ℕ) → owner g c ≡ Some (LeafCell t i j) → n < 8 → field w c n ≢ 0 → field w' c n ≢ 0) where
   grows : (c : ℕ) (o : Owner) → owner g c ≡ Some o → owner (grown g own (put ∷ [])) c ≡ Some o
   grows c o e = get_front g.owners own c o e
-
-  here_or_new : (c : ℕ) (o : Owner) → owner (grown g own (put ∷ [])) c ≡ Some o → (owner g c ≡ Some o) ⊎ IsNewOwner w' (grown g own (put ∷ [])) put.key c o
-  here_or_new c o e = ⊎_elim (λ t. inl t) (λ (t : (j : ℕ) × (c ≡ length g.owners + j) × (slice_get own j ≡ Some o)). inr (subst (λ (x : ℕ). IsNewOwner w' (grown g own (put ∷ [])) put.key x o) (sym t.1) (news t.0 o t.2))) (get_either g.owners own c o e)
 
   -- a child of a node is still one
   still : (c b : ℕ) (q : List ℕ) → owner g c ≡ Some (TopCell q) → b < 256 → split_child w c b ≢ 0 → split_child w' c b ≢ 0
@@ -122,11 +117,11 @@ module _ (w w' : List ℕ) (g : Ledger) (cells : ℕ) (ok : IsImage w g cells) (
   pub splits_stand : HasSplitNodes w' (grown g own (put ∷ []))
   splits_stand = record {
     mids = λ c t i e. ⊎_elim (λ (o : owner g c ≡ Some (MidCell t i)). let m = split.mids c t i o in let top = split.tops c t i o in (m.0, tops t i top.0 top.1 (omega (arith, m.0)) (λ z. let n : 32 * c + 28 ≡ 0 = sym m.1 ∙ z in omega arith) ∙ m.1))
-        (λ (h : (i < 4) × (field w' t i ≡ 32 * c + 28) × (q : List ℕ) × (owner (grown g own (put ∷ [])) t ≡ Some (TopCell q))). (h.0, h.1)) (here_or_new c (MidCell t i) e);
+        (λ (h : (i < 4) × (field w' t i ≡ 32 * c + 28) × (q : List ℕ) × (owner (grown g own (put ∷ [])) t ≡ Some (TopCell q))). (h.0, h.1)) (old_or_new w' g own put news c (MidCell t i) e);
     tops = λ c t i e. ⊎_elim (λ (o : owner g c ≡ Some (MidCell t i)). let top = split.tops c t i o in (top.0, grows t (TopCell top.0) top.1))
-        (λ (h : (i < 4) × (field w' t i ≡ 32 * c + 28) × (q : List ℕ) × (owner (grown g own (put ∷ [])) t ≡ Some (TopCell q))). (h.2, h.3)) (here_or_new c (MidCell t i) e);
+        (λ (h : (i < 4) × (field w' t i ≡ 32 * c + 28) × (q : List ℕ) × (owner (grown g own (put ∷ [])) t ≡ Some (TopCell q))). (h.2, h.3)) (old_or_new w' g own put news c (MidCell t i) e);
     leaves = λ c t i j e. ⊎_elim (λ (o : owner g c ≡ Some (LeafCell t i j)). let l = split.leaves c t i j o in (l.0, grows l.0 (MidCell t i) l.1, l.2, mids l.0 t i j l.1 l.2 (λ z. let n : 32 * c + 28 ≡ 0 = sym l.3 ∙ z in omega arith) ∙ l.3))
-        (λ (h : (m : ℕ) × (owner (grown g own (put ∷ [])) m ≡ Some (MidCell t i)) × (j < 8) × (field w' m j ≡ 32 * c + 28)). h) (here_or_new c (LeafCell t i j) e);
+        (λ (h : (m : ℕ) × (owner (grown g own (put ∷ [])) m ≡ Some (MidCell t i)) × (j < 8) × (field w' m j ≡ 32 * c + 28)). h) (old_or_new w' g own put news c (LeafCell t i j) e);
     children = λ c q e. ⊎_elim (λ (o : owner g c ≡ Some (TopCell q)). let b = split.children c q o in (b.0, b.1, still c b.0 q o b.1 b.2))
-        (λ (h : Towards put.key q × (b : ℕ) × (b < 256) × (split_child w' c b ≢ 0)). (h.1, h.2, h.3)) (here_or_new c (TopCell q) e);
+        (λ (h : Towards put.key q × (b : ℕ) × (b < 256) × (split_child w' c b ≢ 0)). (h.1, h.2, h.3)) (old_or_new w' g own put news c (TopCell q) e);
   }

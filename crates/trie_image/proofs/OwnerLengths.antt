@@ -66,31 +66,6 @@ as_many w used number n value start rest e b t path = let words : List ℕ = rec
       length_first_owners n value start rest,
     )
 
-length_prepares : (at : ℕ) (ws : List ℕ) → length (prepares at ws) ≡ length ws
+pub length_prepares : (at : ℕ) (ws : List ℕ) → length (prepares at ws) ≡ length ws
 length_prepares at [] = refl
 length_prepares at (x ∷ ws) = ap (λ (n : ℕ). suc n) (length_prepares (at + 1) ws)
-
--- one store or two make the new cells reachable
-few_publish : (w : List ℕ) (m : Meets) (s : Stand) (b entry p : ℕ) → (1 ≤ length (publish_stores w m s b entry p)) × (length (publish_stores w m s b entry p) ≤ 2)
-few_publish w Sparse s b entry p = (omega arith, omega arith)
-few_publish w Content s b entry p = (omega arith, omega arith)
-few_publish w Nothing s b entry p = (omega arith, omega arith)
-few_publish w OtherByte s b entry p = (omega arith, omega arith)
-few_publish w End s b entry p = (omega arith, omega arith)
-few_publish w Full s b entry p = (omega arith, omega arith)
-few_publish w NoLeaf s b entry p = (omega arith, omega arith)
-few_publish w NoMid s b entry p = (omega arith, omega arith)
-few_publish w PastContent s b entry p = (omega arith, omega arith)
-
--- so the number of stores tells the number of new cells
-pub stores_taken : (w : List ℕ) (used n : ℕ) (value start rest : List ℕ) (e : Exit) (b t : ℕ) (path : List ℕ) → (length (stores_from w used value rest e b) - 2) / 4 ≡ length (first_owners n value start rest ++ further_owners w e.meets e.stand path b t (first_further used value rest))
-stores_taken w used n value start rest e b t path = let publish = few_publish w e.meets e.stand b (entry_of used value rest) (published e.meets e.stand (first_further used value rest) (content_of used) (entry_of used value rest)) in
-    omega (
-      arith,
-      length-append (prepares (4 * used) (body_words w used (slice_index w 0 + 1) value rest e b) ++ publish_stores w e.meets e.stand b (entry_of used value rest) (published e.meets e.stand (first_further used value rest) (content_of used) (entry_of used value rest))) (store_at 0 (slice_index w 0 + 1) Finish ∷ []),
-      length-append (prepares (4 * used) (body_words w used (slice_index w 0 + 1) value rest e b)) (publish_stores w e.meets e.stand b (entry_of used value rest) (published e.meets e.stand (first_further used value rest) (content_of used) (entry_of used value rest))),
-      length_prepares (4 * used) (body_words w used (slice_index w 0 + 1) value rest e b),
-      as_many w used (slice_index w 0 + 1) n value start rest e b t path,
-      publish.0,
-      publish.1,
-    )

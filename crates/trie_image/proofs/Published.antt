@@ -43,9 +43,6 @@ module _ (w : List ℕ) (used : ℕ) (small : used < 2 ^ 31) where
     prefix_kind : kind_at p ≡ Some kind.Prefix
     prefix_kind = offset_kind p x 31 is low high (omega arith)
 
-    prefix_there : p ≢ 0
-    prefix_there z = omega arith
-
     prefix_record : record_of w p (kind_at p) ≡ content_record content (kind_at content)
     prefix_record = ap (λ (k : Option Kind). record_of w p k) prefix_kind ∙ (ap (λ (c : ℕ). content_record (field w c 0) (kind_at (field w c 0))) over ∙ ap (λ (c : ℕ). content_record c (kind_at c)) (prefix_content w x content node h fits))
 

@@ -31,7 +31,7 @@ use Rattle.trie_image.proofs.Prepared.{same_prepared, prepares_taken}
 use Rattle.trie_image.proofs.Leaves.{MetSparse, LeavesBy}
 use Rattle.trie_image.proofs.Exits.{leaves}
 use Rattle.trie_image.proofs.NewOwners.{first_owners, further_owners}
-use Rattle.trie_image.proofs.OwnerLengths.{as_many}
+use Rattle.trie_image.proofs.OwnerLengths.{as_many, length_prepares}
 use Rattle.trie_image.proofs.Ready.{bytes_by_index, below}
 use Rattle.trie_image.proofs.Finals.{home_inside, content_published, nothing_published, other_published, end_published, full_published, past_published, leaf_published, mid_published}
 use Rattle.trie_image.proofs.FinalSparse.{same_before, sparse_published}
@@ -92,6 +92,7 @@ module _ (w : List ℕ) (g : Ledger) (cells : ℕ) (key value : List ℕ) (wf : 
         new_cells = refl;
         exact = exact;
         at_most_one = few;
+        taken = omega (arith, ap (λ (l : List WordStore). length l) all, length-append front (publish ∷ fin ∷ []), length-append (prepares (4 * length g.owners) words) slot, length_prepares (4 * length g.owners) words, exact, few);
         all = all;
         prepared = joined (prepares (4 * length g.owners) words) slot (prepares_are (4 * length g.owners) words) slots;
         is_publish = is;
@@ -173,4 +174,4 @@ module _ (w : List ℕ) (g : Ledger) (cells : ℕ) (key value : List ℕ) (wf : 
 pub put_law : (w : List ℕ) (used : ℕ) (key value : List ℕ) (can : CanPut w used key value) → ((i b : ℕ) → slice_get key i ≡ Some b → b < 256) → IsPutBy w can.ledger can.cells (put_at key value used) (stores_of w used key value)
 put_law w used key value can bytes = let e : Exit = exit_of w key in let taken = can.taken in
     subst (λ (n : ℕ). IsPutBy w can.ledger can.cells (put_at key value n) (stores_from w n value (rest_of key e.meets e.taken) e (slice_index key e.taken))) (sym taken)
-    (by_case w can.ledger can.cells key value can.image (sym can.number) can.least can.most can.short (subst (λ (n : ℕ). n + cost (length key) (length value) ≤ can.cells) taken can.room) (bytes_by_index key bytes) e.meets e.stand e.taken (leaves w can.ledger can.cells can.image.image key bytes))
+    (by_case w can.ledger can.cells key value can.image (sym can.number) can.least can.most can.short (subst (λ (n : ℕ). n + cost (length key) (length value) ≤ can.cells) taken can.room) (bytes_by_index key bytes) e.meets e.stand e.taken (leaves w can.ledger can.cells can.image.image key (bytes_by_index key bytes)))

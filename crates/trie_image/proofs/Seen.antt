@@ -11,8 +11,7 @@ use Rattle.trie_image.specs.Cell.{IsImage}
 use Rattle.trie_image.proofs.Readings.{sees_there}
 use Rattle.trie_image.proofs.Children.{closed}
 use Rattle.trie_image.proofs.Kept.{not_first}
-use Rattle.trie_image.proofs.Live.{Walks}
-use Rattle.trie_image.proofs.Lives.{sees_new, lives}
+use Rattle.trie_image.proofs.Live.{Walks, sees_new, lives}
 use Rattle.trie_image.proofs.Homes.{IsOfPrefix, Home, root, tail, slot, leaf, content, node}
 use Rattle.trie_image.proofs.Exits.{path_nonzero, IsNode, node_nonzero}
 use Rattle.trie_image.proofs.Turned.{Turned, tail_leads, slot_leads, leaf_leads, prefix_leads, prefix_holds, root_turned, root_stays}

@@ -69,7 +69,7 @@ module _ (w w' : List ℕ) (g : Ledger) (cell place p' : ℕ) (t : Turned w w' (
   led_by q n b r o' own ne is = over_children w' g r.last n b is (over_kept r.last n q r.last_path o' own ne r.over)
 
   pub tail_leads : (q : List ℕ) (h : IsTail w g q cell place) → child_of w' h.reached.last h.byte (kind_at h.reached.last) ≡ p'
-  tail_leads q h = let n : ℕ = h.parent in let c : ℕ = n / 32 in
+  tail_leads q h = let n : ℕ = h.parent in
       let byte : cell_byte w' (n / 32) (n % 32) ≡ h.byte = ap (λ (x : ℕ). cell_byte w' x (n % 32)) h.here ∙ (tail_bytes w w' (length g.owners) cell place p' t h.is_place (n % 32) (let e = h.end in omega arith) ∙ (ap (λ (x : ℕ). cell_byte w x (n % 32)) (sym h.here) ∙ h.is_byte)) in
       led_by h.before n h.byte h.reached (ChainCell h.from q) h.own (λ r z. cc) (inl h.kind)
       ∙ (ap (λ (k : Option Kind). node_child w' n h.byte k) h.kind

@@ -28,7 +28,7 @@ use Rattle.trie_image.proofs.Places.{places}
 
 -- what the publishing store leaves in cells taken before: the pointers in top and mid cells, pointers in leaf cells, and what
 -- order words find
-pub record Leaves (w w' : List ℕ) (g : Ledger) : Type 0 where
+pub record KeepsCells (w w' : List ℕ) (g : Ledger) : Type 0 where
   pub tops : (c i : ℕ) (q : List ℕ) → owner g c ≡ Some (TopCell q) → i < 8 → field w c i ≢ 0 → field w' c i ≡ field w c i
   pub mids : (c t j i : ℕ) → owner g c ≡ Some (MidCell t j) → i < 8 → field w c i ≢ 0 → field w' c i ≡ field w c i
   pub leaves : (c t i j n : ℕ) → owner g c ≡ Some (LeafCell t i j) → n < 8 → field w c n ≢ 0 → field w' c n ≢ 0
@@ -78,7 +78,7 @@ module _ (w w1 w' : List ℕ) (g : Ledger) (cells : ℕ) (own : List Owner) (put
         (λ (ne : k ≡ put.key → ⊥). ⊎_elim (λ (e : sees_from (reading w') (root_of w') k ≡ sees_from (reading w) (root_of w) k). subst (MapsTo (g.puts ++ put ∷ []) k) (sym e) (maps_old g.puts put k (sees_from (reading w) (root_of w) k) ne (ok.map k)))
         (λ (t : (k ≡ put.key) × (sees_from (reading w') (root_of w') k ≡ Some put.cell)). absurd (ne t.0)) (roots k)) (same_or_not k put.key)
 
-    module _ (left : Leaves w w' g) (news : AreNewOwners w' (grown g own (put ∷ [])) put.key (length g.owners) own) (recorded : IsRecorded (grown g own (put ∷ [])) (length g.puts) put) where
+    module _ (left : KeepsCells w w' g) (news : AreNewOwners w' (grown g own (put ∷ [])) put.key (length g.owners) own) (recorded : IsRecorded (grown g own (put ∷ [])) (length g.puts) put) where
       records : HasRecords (grown g own (put ∷ []))
       records = record {
         records = λ n j e is l. ⊎_elim (λ (t : slice_get g.puts n ≡ Some e). get_front g.owners own (e.cell + j) (RecordCell n j) (ok.puts.records n j e t l))

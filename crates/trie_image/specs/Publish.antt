@@ -1,5 +1,5 @@
 -- What the stores of a put do to a well-formed image. This project's own.
-use Rattle.std.specs.Prelude.{◌≡◌, ◌⊎◌, ℕ, ◌+◌, ◌*◌, ◌<◌, ◌≤◌, List, [], ◌∷◌, ◌++◌, length, take, slice_get, slice_index, Some}
+use Rattle.std.specs.Prelude.{◌≡◌, ◌⊎◌, ℕ, ◌+◌, ◌-◌, ◌*◌, ◌/◌, ◌<◌, ◌≤◌, List, [], ◌∷◌, ◌++◌, length, take, slice_get, slice_index, Some}
 use Rattle.trie_image.specs.declared.Put.{Put}
 use Rattle.trie_image.specs.declared.Owner.{Owner}
 use Rattle.trie_image.specs.declared.Ledger.{Ledger}
@@ -43,6 +43,7 @@ pub record IsPutBy (w : List ℕ) (g : Ledger) (cells : ℕ) (put : Put) (stores
   pub new_cells : front ≡ prepares (4 * length g.owners) words ++ slot
   pub exact : length words ≡ 4 * length own
   pub at_most_one : length slot ≤ 1
+  pub taken : (length stores - 2) / 4 ≡ length own
   pub all : stores ≡ front ++ publish ∷ store_at 0 (slice_index w 0 + 1) Finish ∷ []
   pub prepared : ArePrepares front
   pub is_publish : publish.kind ≡ Publish
