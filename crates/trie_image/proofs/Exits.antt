@@ -1,5 +1,5 @@
 -- What the end of a walk tells in a well-formed image.
-use Rattle.std.proofs.Common.{◌≡◌, ◌≢◌, ◌⊎◌, ℕ, suc, ◌+◌, ◌-◌, ◌/◌, ◌%◌, ◌<◌, ◌==◌, nat_lt, Bool, true, false, cond, List, [], ◌∷◌, ◌++◌, length, slice_index, Option, Some, None, refl, sym, ap, ap₂, ◌∙◌, subst, inl, inr, ⊎_elim, arith, append_assoc, append-nil, length-append, eq-eqb, ne_eqb, eqb-true, ltb-true, lt-ltb}
+use Rattle.std.proofs.Common.{◌≡◌, ◌≢◌, ◌⊎◌, ℕ, suc, ◌+◌, ◌-◌, ◌/◌, ◌%◌, ◌^◌, ◌<◌, ◌≤◌, ◌==◌, nat_lt, Bool, true, false, cond, List, [], ◌∷◌, ◌++◌, length, slice_index, Option, Some, None, refl, sym, ap, ap₂, ◌∙◌, subst, inl, inr, ⊎_elim, arith, append_assoc, append-nil, length-append, eq-eqb, ne_eqb, eqb-true, ltb-true, lt-ltb}
 use Rattle.std.proofs.lemmas.List.{get_or_append_left}
 use Rattle.std.proofs.Math.Seq.{get_or-append_seam}
 use Rattle.std.proofs.lemmas.Bool.{cases_eq, cond-true, cond-false, eqb-false, ltb-false}
@@ -19,6 +19,7 @@ use Rattle.trie_image.specs.Reading.{Reading, Reads}
 use Rattle.trie_image.specs.Image.{word_of, field, cell_byte, chain_child, slot_child, leaf_child, mid_child, node_child, child_of, record_of, reading, root_of}
 use Rattle.trie_image.specs.Paths.{owner, HasPath, at_content, at_chain, at_sparse, at_wide, at_prefix}
 use Rattle.trie_image.specs.Cell.{IsChainCell, IsSparseCell, IsTopCell, IsMidCell, IsPrefixCell, IsImage}
+use Rattle.trie_image.specs.Body.{chain_rest}
 use Rattle.trie_image.specs.Exit.{stand_at, stand_in, end_at, chain_step, slot_step, leaf_step, mid_step, node_step, byte_step, exit_from, exit_at, exit_of}
 use Rattle.trie_image.proofs.Owners.{chain_of, sparse_of, wide_of, prefix_of, path_once}
 use Rattle.trie_image.proofs.Children.{closed}
@@ -76,6 +77,13 @@ next_reads w p b k e l = (
   (λ a ne. ap (λ (x : Option Kind). child_of w p a x) k ∙ cond-false (cell_byte w (p / 32) (p % 32) == a) (cond (p % 32 == 27) (field w (p / 32) 7) (p + 1)) 0 (ne_eqb (cell_byte w (p / 32) (p % 32)) a (λ z. ne (sym z ∙ e)))),
   ap (λ (x : Option Kind). child_of w p b x) k ∙ (cond-true (cell_byte w (p / 32) (p % 32) == b) (cond (p % 32 == 27) (field w (p / 32) 7) (p + 1)) 0 (eq-eqb (cell_byte w (p / 32) (p % 32)) b e) ∙ cond-false (p % 32 == 27) (field w (p / 32) 7) (p + 1) (ne_eqb (p % 32) 27 l)),
 )
+
+-- the child under a chain pointer's byte is the rest of its chain
+pub rest_child : (w : List ℕ) (p : ℕ) → kind_at p ≡ Some kind.Chain → child_of w p (cell_byte w (p / 32) (p % 32)) (kind_at p) ≡ chain_rest w p
+rest_child w p k = let byte : ℕ = cell_byte w (p / 32) (p % 32) in ap (λ (x : Option Kind). child_of w p byte x) k ∙ (cond-true (byte == byte) (cond (p % 32 == 27) (field w (p / 32) 7) (p + 1)) 0 (eq-eqb byte byte refl) ∙ ⊎_elim
+    (λ (e : p % 32 ≡ 27). cond-true (p % 32 == 27) (field w (p / 32) 7) (p + 1) (eq-eqb (p % 32) 27 e) ∙ sym (cond-true (p % 32 == 27) (field w (p / 32) 7) (cond (nat_lt (p % 32) 27) (p + 1) 0) (eq-eqb (p % 32) 27 e)))
+    (λ (ne : p % 32 ≢ 27). let offset : (p ≢ 0) × (p < 2 ^ 31) × (p % 32 ≤ 27) = is_kind p (Some kind.Chain) k in let less : p % 32 < 27 = omega (arith, offset.2) in cond-false (p % 32 == 27) (field w (p / 32) 7) (p + 1) (ne_eqb (p % 32) 27 ne)
+    ∙ sym (cond-false (p % 32 == 27) (field w (p / 32) 7) (cond (nat_lt (p % 32) 27) (p + 1) 0) (ne_eqb (p % 32) 27 ne) ∙ cond-true (nat_lt (p % 32) 27) (p + 1) 0 (lt-ltb (p % 32) 27 less))) (cases_eq (p % 32) 27))
 
 module _ (w : List ℕ) (g : Ledger) (cells : ℕ) (ok : IsImage w g cells) where
   -- the cell is no prefix cell

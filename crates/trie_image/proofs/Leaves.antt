@@ -1,5 +1,5 @@
 -- What the end of a walk tells, by the case that it meets.
-use Rattle.std.proofs.Common.{◌≡◌, ◌≢◌, ◌⊎◌, ℕ, ◌+◌, ◌-◌, ◌/◌, ◌%◌, ◌<◌, ◌≤◌, List, [], ◌∷◌, ◌++◌, length, slice_get, slice_index, Some, None}
+use Rattle.std.proofs.Common.{◌≡◌, ◌≢◌, ◌⊎◌, ℕ, ◌+◌, ◌-◌, ◌/◌, ◌%◌, ◌<◌, ◌≤◌, List, [], ◌∷◌, ◌++◌, length, slice_index, Some, None}
 use Rattle.cell_layout.specs.declared.Kind.TheVariants as kind
 use Rattle.cell_layout.specs.Pointers.{kind_at}
 use Rattle.cell_layout.specs.Slots.{slot_at, child_count}

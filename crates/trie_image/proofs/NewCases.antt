@@ -1,8 +1,7 @@
 -- By the case that the walk met, the further cells of a put are cells, and the pointer that is published has its path.
-use Rattle.std.proofs.Common.{◌≡◌, ◌≢◌, ℕ, ◌+◌, ◌*◌, ◌/◌, ◌%◌, ◌^◌, ◌<◌, ◌≤◌, ◌==◌, nat_lt, cond, List, [], ◌∷◌, ◌++◌, length, Option, Some, refl, sym, ap, ◌∙◌, subst, arith, ⊎_elim, inl, eq-eqb, ne_eqb, lt-ltb}
+use Rattle.std.proofs.Common.{◌≡◌, ◌≢◌, ℕ, ◌+◌, ◌*◌, ◌/◌, ◌%◌, ◌^◌, ◌<◌, ◌≤◌, ◌==◌, nat_lt, cond, List, [], ◌∷◌, ◌++◌, length, Some, refl, sym, ap, ◌∙◌, subst, arith, ⊎_elim, inl, eq-eqb, ne_eqb, lt-ltb}
 use Rattle.std.proofs.lemmas.Bool.{cond-true, cond-false, cases_eq}
 use Rattle.std.proofs.Math.Nat.{mod-lt}
-use Rattle.cell_layout.specs.declared.Kind.{Kind}
 use Rattle.cell_layout.specs.declared.Kind.TheVariants as kind
 use Rattle.cell_layout.specs.Pointers.{kind_at_offset, kind_at}
 use Rattle.cell_layout.proofs.PointerKinds.{is_kind}
@@ -10,13 +9,13 @@ use Rattle.trie_image.specs.declared.Owner.{Owner}
 use Rattle.trie_image.specs.declared.Owner.TheVariants.{HeadCell, ChainCell, SparseCell, TopCell, MidCell, LeafCell, PrefixCell}
 use Rattle.trie_image.specs.declared.Ledger.{Ledger}
 use Rattle.trie_image.specs.declared.exit.Stand.{Stand}
-use Rattle.trie_image.specs.Image.{word_of, field, cell_byte, child_of}
+use Rattle.trie_image.specs.Image.{word_of, field, cell_byte}
 use Rattle.trie_image.specs.Paths.{owner, HasPath, at_sparse, at_wide, at_prefix}
 use Rattle.trie_image.specs.Cell.{IsChainCell, IsImage}
 use Rattle.trie_image.specs.Body.{chain_rest, split_words, passed_words, prefix_words, lone_words, wide_words, over_passed, seven}
 use Rattle.trie_image.proofs.Owners.{chain_of, sparse_of}
 use Rattle.trie_image.proofs.Children.{closed}
-use Rattle.trie_image.proofs.Exits.{path_nonzero, IsNode}
+use Rattle.trie_image.proofs.Exits.{rest_child, path_nonzero, IsNode}
 use Rattle.trie_image.proofs.BodyLengths.{length_split}
 use Rattle.trie_image.proofs.CellWords.{Stands, stands_front, stands_back}
 use Rattle.trie_image.proofs.NewChains.{Owns, AreCells, owns_back, cells_joined, cell_alone, owner_first}
@@ -27,14 +26,6 @@ use Rattle.trie_image.proofs.NewFurther.{passed_are, over_path}
 
 -- the child under a chain's byte
 module _ (w : List ℕ) (g : Ledger) (cells : ℕ) (ok : IsImage w g cells) (p : ℕ) (path : List ℕ) (at : HasPath g p path) (is : kind_at p ≡ Some kind.Chain) where
-  rest_is : (cell_byte w (p / 32) (p % 32) ≡ cell_byte w (p / 32) (p % 32)) → child_of w p (cell_byte w (p / 32) (p % 32)) (kind_at p) ≡ chain_rest w p
-  rest_is same = ap (λ (k : Option Kind). child_of w p (cell_byte w (p / 32) (p % 32)) k) is
-      ∙ (cond-true (cell_byte w (p / 32) (p % 32) == cell_byte w (p / 32) (p % 32)) (cond (p % 32 == 27) (field w (p / 32) 7) (p + 1)) 0 (eq-eqb (cell_byte w (p / 32) (p % 32)) (cell_byte w (p / 32) (p % 32)) same)
-      ∙ ⊎_elim (λ (e : p % 32 ≡ 27). cond-true (p % 32 == 27) (field w (p / 32) 7) (p + 1) (eq-eqb (p % 32) 27 e) ∙ sym (cond-true (p % 32 == 27) (field w (p / 32) 7) (cond (nat_lt (p % 32) 27) (p + 1) 0) (eq-eqb (p % 32) 27 e)))
-      (λ (ne : p % 32 ≢ 27). let l : (p ≢ 0) × (p < 2 ^ 31) × (p % 32 ≤ 27) = is_kind p (Some kind.Chain) is in
-      cond-false (p % 32 == 27) (field w (p / 32) 7) (p + 1) (ne_eqb (p % 32) 27 ne)
-      ∙ sym (cond-false (p % 32 == 27) (field w (p / 32) 7) (cond (nat_lt (p % 32) 27) (p + 1) 0) (ne_eqb (p % 32) 27 ne) ∙ cond-true (nat_lt (p % 32) 27) (p + 1) 0 (lt-ltb (p % 32) 27 (omega (arith, l.2))))) (cases_eq (p % 32) 27))
-
   rest_there : chain_rest w p ≢ 0
   rest_there z = let i = chain_of g p path at is in let c : IsChainCell w g (p / 32) i.0 i.1 = ok.each (p / 32) (ChainCell i.0 i.1) i.2 in
       ⊎_elim (λ (e : p % 32 ≡ 27). path_nonzero g (field w (p / 32) 7) i.1 c.tail (sym (cond-true (p % 32 == 27) (field w (p / 32) 7) (cond (nat_lt (p % 32) 27) (p + 1) 0) (eq-eqb (p % 32) 27 e)) ∙ z))
@@ -42,7 +33,7 @@ module _ (w : List ℕ) (g : Ledger) (cells : ℕ) (ok : IsImage w g cells) (p :
       let same : p + 1 ≡ 0 = sym (cond-false (p % 32 == 27) (field w (p / 32) 7) (cond (nat_lt (p % 32) 27) (p + 1) 0) (ne_eqb (p % 32) 27 ne) ∙ cond-true (nat_lt (p % 32) 27) (p + 1) 0 (lt-ltb (p % 32) 27 (omega (arith, l.2)))) ∙ z in omega arith) (cases_eq (p % 32) 27)
 
   pub rest_path : HasPath g (chain_rest w p) (path ++ cell_byte w (p / 32) (p % 32) ∷ [])
-  rest_path = subst (λ (x : ℕ). HasPath g x (path ++ cell_byte w (p / 32) (p % 32) ∷ [])) (rest_is refl) (closed w g ok.each p path (cell_byte w (p / 32) (p % 32)) at (λ z. rest_there (sym (rest_is refl) ∙ z)))
+  rest_path = subst (λ (x : ℕ). HasPath g x (path ++ cell_byte w (p / 32) (p % 32) ∷ [])) (rest_child w p is) (closed w g ok.each p path (cell_byte w (p / 32) (p % 32)) at (λ z. rest_there (sym (rest_child w p is) ∙ z)))
 
 module _ (w w' : List ℕ) (g g' : Ledger) (cells : ℕ) (ok : IsImage w g cells) (grows : (p : ℕ) (r : List ℕ) → HasPath g p r → HasPath g' p r) (keeps : (c : ℕ) (o : Owner) → owner g c ≡ Some o → owner g' c ≡ Some o) (x content entry : ℕ) (low : x + 64 < 2 ^ 26) (some_ : 1 ≤ x) where
   head : owner g' 0 ≡ Some HeadCell

@@ -1,5 +1,5 @@
 -- A put's new owners are as many as its new cells.
-use Rattle.std.proofs.Common.{◌≡◌, ℕ, suc, ◌+◌, ◌-◌, ◌*◌, ◌/◌, ◌%◌, ◌≤◌, ◌==◌, Bool, true, false, cond, List, [], ◌∷◌, ◌++◌, length, filter, slice_index, refl, ap, arith, length-append}
+use Rattle.std.proofs.Common.{◌≡◌, ℕ, suc, ◌+◌, ◌-◌, ◌*◌, ◌/◌, ◌%◌, ◌==◌, Bool, true, false, cond, List, [], ◌∷◌, ◌++◌, length, filter, refl, ap, arith, length-append}
 use Rattle.std.specs.List.{range_with_len}
 use Rattle.trie_image.specs.declared.Owner.TheVariants.{ChainCell, TopCell, MidCell, LeafCell}
 use Rattle.trie_image.specs.declared.exit.Stand.{Stand}
@@ -8,9 +8,8 @@ use Rattle.trie_image.specs.declared.exit.Meets.TheVariants.{Content, Nothing, O
 use Rattle.trie_image.specs.declared.exit.Exit.{Exit}
 use Rattle.trie_image.specs.Image.{word_of, cell_byte}
 use Rattle.trie_image.specs.Cell.{record_cells}
-use Rattle.trie_image.specs.Body.{record_words, chain_cell, chain_cells, chain_from, passed_bytes, passed_words, chain_rest, split_words, prefix_words, seven, has_mid, has_leaf, mid_field, leaf_field, top_words, mid_words, leaf_words, further, published}
-use Rattle.trie_image.specs.Stores.{store_at, prepares, content_of, entry_of, first_further, body_words, publish_stores, stores_from}
-use Rattle.trie_image.specs.declared.StoreKind.TheVariants.{Finish}
+use Rattle.trie_image.specs.Body.{record_words, chain_cell, chain_cells, chain_from, passed_bytes, passed_words, chain_rest, split_words, prefix_words, seven, has_mid, has_leaf, mid_field, leaf_field, top_words, mid_words, leaf_words, further}
+use Rattle.trie_image.specs.Stores.{prepares, content_of, entry_of, first_further, body_words}
 use Rattle.trie_image.proofs.BodyLengths.{length_chain, length_eights, length_split}
 use Rattle.trie_image.proofs.NewCells.{length_record_words}
 use Rattle.trie_image.proofs.NewWide.{mid_owners, leaf_owners, wide_owners}

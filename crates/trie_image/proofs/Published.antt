@@ -1,6 +1,6 @@
 -- The pointer that a put publishes is better than the one in its place, by the case that the walk met. All is said of the
 -- words after the publishing store.
-use Rattle.std.proofs.Common.{◌≡◌, ◌≢◌, ℕ, suc, ◌+◌, ◌-◌, ◌*◌, ◌/◌, ◌%◌, ◌^◌, ◌<◌, ◌≤◌, ◌==◌, nat_lt, Bool, true, false, cond, List, [], ◌∷◌, length, slice_index, Option, Some, None, refl, sym, ap, ap₂, ◌∙◌, subst, ⊎_elim, arith, eq-eqb, ne_eqb, lt-ltb, ltb-true}
+use Rattle.std.proofs.Common.{◌≡◌, ◌≢◌, ℕ, suc, ◌+◌, ◌-◌, ◌*◌, ◌/◌, ◌%◌, ◌^◌, ◌<◌, ◌≤◌, ◌==◌, nat_lt, Bool, true, false, cond, List, [], ◌∷◌, length, slice_index, Option, Some, None, refl, sym, ap, ap₂, ◌∙◌, subst, ⊎_elim, arith, eq-eqb, ne_eqb, ltb-true}
 use Rattle.std.proofs.lemmas.Bool.{cases_eq, cases_Bool, ltb-false, cond-true, cond-false}
 use Rattle.cell_layout.specs.declared.Kind.{Kind}
 use Rattle.cell_layout.specs.declared.Kind.TheVariants as kind
@@ -16,7 +16,7 @@ use Rattle.trie_image.proofs.Betters.{reads_on, better_chain, cell_reads}
 use Rattle.trie_image.proofs.Nodes.{better_node, better_record}
 use Rattle.trie_image.proofs.CellWords.{Stands, byte_of_chain_cell, tail_of_chain_cell, bytes_passed, passed_byte}
 use Rattle.trie_image.proofs.NewPointers.{offset_kind, content_kind, content_there, content_is, content_record_is, content_leaf, prefix_content, prefix_node}
-use Rattle.trie_image.proofs.Exits.{IsNode, own_children, next_reads}
+use Rattle.trie_image.proofs.Exits.{IsNode, own_children, next_reads, rest_child}
 use Rattle.trie_image.specs.Same.{SameWords}
 use Rattle.trie_image.proofs.Kept.{same_field}
 use Rattle.trie_image.proofs.Wides.{has_new, has_old, split_there, split_absent}
@@ -72,22 +72,12 @@ module _ (w : List ℕ) (used : ℕ) (small : used < 2 ^ 31) where
     chain_other : (a : ℕ) → a ≢ cell_byte w (at / 32) (at % 32) → child_of w at a (kind_at at) ≡ 0
     chain_other a ne = ap (λ (x : Option Kind). child_of w at a x) k ∙ cond-false (cell_byte w (at / 32) (at % 32) == a) (cond (at % 32 == 27) (field w (at / 32) 7) (at + 1)) 0 (ne_eqb (cell_byte w (at / 32) (at % 32)) a (λ z. ne (sym z)))
 
-    chain_next : child_of w at (cell_byte w (at / 32) (at % 32)) (kind_at at) ≡ cond (at % 32 == 27) (field w (at / 32) 7) (at + 1)
-    chain_next = ap (λ (x : Option Kind). child_of w at (cell_byte w (at / 32) (at % 32)) x) k
-        ∙ cond-true (cell_byte w (at / 32) (at % 32) == cell_byte w (at / 32) (at % 32)) (cond (at % 32 == 27) (field w (at / 32) 7) (at + 1)) 0 (eq-eqb (cell_byte w (at / 32) (at % 32)) (cell_byte w (at / 32) (at % 32)) refl)
-
-    rest_is : cond (at % 32 == 27) (field w (at / 32) 7) (at + 1) ≡ chain_rest w at
-    rest_is = let offset : (at ≢ 0) × (at < 2 ^ 31) × (at % 32 ≤ 27) = is_kind at (Some kind.Chain) k in ⊎_elim
-        (λ (e : at % 32 ≡ 27). cond-true (at % 32 == 27) (field w (at / 32) 7) (at + 1) (eq-eqb (at % 32) 27 e) ∙ sym (cond-true (at % 32 == 27) (field w (at / 32) 7) (cond (nat_lt (at % 32) 27) (at + 1) 0) (eq-eqb (at % 32) 27 e)))
-        (λ (ne : at % 32 ≢ 27). let less : at % 32 < 27 = omega (arith, offset.2) in cond-false (at % 32 == 27) (field w (at / 32) 7) (at + 1) (ne_eqb (at % 32) 27 ne)
-        ∙ sym (cond-false (at % 32 == 27) (field w (at / 32) 7) (cond (nat_lt (at % 32) 27) (at + 1) 0) (ne_eqb (at % 32) 27 ne) ∙ cond-true (nat_lt (at % 32) 27) (at + 1) 0 (lt-ltb (at % 32) 27 less))) (cases_eq (at % 32) 27)
-
     pub better_split : (x old b entry : ℕ) (rest : List ℕ) → Stands w x (split_words old (chain_rest w at) b entry) → old ≡ cell_byte w (at / 32) (at % 32) → 1 ≤ x → x < 2 ^ 26 → old < 256 → b < 256 → chain_rest w at < 2 ^ 32 → entry < 2 ^ 32 → old ≢ b → Reads (reading w) entry rest (content_of used) → Better (reading w) at (32 * x + 30) (b ∷ rest) used
     better_split x old b entry rest h is_old low high so sb fc fe ne reads = let p : ℕ = 32 * x + 30 in
         better_node (reading w) b rest at p used (is_kind at (Some kind.Chain) k).0 (λ z. omega arith)
         (ap (λ (x : Option Kind). record_of w p x) (sparse_kind w x p refl low high) ∙ sym chain_none)
         (λ a l other. ap (λ (c : ℕ). sees_from (reading w) c l) (⊎_elim
-        (λ (e : a ≡ old). ap (λ (y : ℕ). child_of w p y (kind_at p)) e ∙ (split_old w x p refl low high old (chain_rest w at) b entry h so sb fc fe ne ∙ (sym rest_is ∙ (sym chain_next ∙ ap (λ (y : ℕ). child_of w at y (kind_at at)) (sym (e ∙ is_old))))))
+        (λ (e : a ≡ old). ap (λ (y : ℕ). child_of w p y (kind_at p)) e ∙ (split_old w x p refl low high old (chain_rest w at) b entry h so sb fc fe ne ∙ (sym (rest_child w at k) ∙ (ap (λ (y : ℕ). child_of w at y (kind_at at)) (sym (e ∙ is_old))))))
         (λ (apart : a ≢ old). split_other w x p refl low high old (chain_rest w at) b entry h so sb fc fe ne a apart other ∙ sym (chain_other a (λ z. apart (z ∙ sym is_old)))) (cases_eq a old)))
         (subst (λ (c : ℕ). Better (reading w) c (child_of w p b (kind_at p)) rest used) (sym (chain_other b (λ z. ne (is_old ∙ sym z))))
         (subst (λ (c : ℕ). Better (reading w) 0 c rest used) (sym (split_new w x p refl low high old (chain_rest w at) b entry h so sb fc fe ne)) (better_entry entry rest reads)))
