@@ -66,13 +66,13 @@ take_front (suc n) [] s = inr (ap (λ (l : List WordStore). s ∷ l) (nothing n)
 take_front (suc n) (x ∷ a) s = ⊎_elim (λ e. inl (ap (λ (l : List WordStore). x ∷ l) e)) (λ e. inr (ap (λ (l : List WordStore). x ∷ l) e)) (take_front n a s)
 
 module _ (w : List ℕ) (g : Ledger) (cells : ℕ) (key value : List ℕ) (wf : IsWellFormed w g cells) (counted : length g.puts ≡ slice_index w 0) (least : 1 ≤ length key) (most : length key ≤ 2048) (short_value : length value ≤ 65535) (room : length g.owners + cost (length key) (length value) ≤ cells) (bytes : AreBytes key) where
-  finish : WordStore
-  finish = store_at 0 (slice_index w 0 + 1) Finish
-
   -- the count, after a publishing store
   module _ (w' : List ℕ) (own : List Owner) (done : IsPublished w w' g cells own (put_at key value (length g.owners))) where
+    alike : IsSame w' (set w' 0 (slice_index w 0 + 1)) (with_put g own (put_at key value (length g.owners)))
+    alike = let ok = done.well_formed in fresh w' (with_put g own (put_at key value (length g.owners))) cells 0 (slice_index w 0 + 1) ok.image (inr refl)
+
     counts : IsWellFormed (set w' 0 (slice_index w 0 + 1)) (with_put g own (put_at key value (length g.owners))) cells
-    counts = let ok = done.well_formed in (keeps_well_formed w' (set w' 0 (slice_index w 0 + 1)) (with_put g own (put_at key value (length g.owners))) cells ok (fresh w' (with_put g own (put_at key value (length g.owners))) cells 0 (slice_index w 0 + 1) ok.image (inr refl))).0
+    counts = (keeps_well_formed w' (set w' 0 (slice_index w 0 + 1)) (with_put g own (put_at key value (length g.owners))) cells done.well_formed alike).0
 
     count_is : slice_index (set w' 0 (slice_index w 0 + 1)) 0 ≡ slice_index w 0 + 1
     count_is = let ok = done.well_formed in let some_ = own_inside g.owners 0 HeadCell wf.image.head in get_or-set_same w' 0 (slice_index w 0 + 1) 0 (omega (arith, ok.image.wide))
@@ -98,6 +98,7 @@ module _ (w : List ℕ) (g : Ledger) (cells : ℕ) (key value : List ℕ) (wf : 
         is_publish = is;
         before = before;
         published = done;
+        counting = subst (λ (x : List ℕ). IsSame w' x (with_put g own (put_at key value (length g.owners)))) (sym last) (alike w' own done);
         finished = subst (λ (x : List ℕ). IsWellFormed x (with_put g own (put_at key value (length g.owners))) cells) (sym last) (counts w' own done);
         counted = ap (λ (x : List ℕ). slice_index x 0) last ∙ count_is w' own done;
       }

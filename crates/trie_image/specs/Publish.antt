@@ -32,8 +32,9 @@ pub record IsPublished (w w' : List ℕ) (g : Ledger) (cells : ℕ) (own : List 
   pub pointers : (k : List ℕ) (a : ℕ) (q : List ℕ) → HasPath g a q → (sees (reading w') a k ≡ sees (reading w) a k) ⊎ ((q ++ k ≡ put.key) × (sees (reading w') a k ≡ Some put.cell))
   pub places : (k : List ℕ) (pl : Place) → IsPlace w g k pl → IsPlace w' (with_put g own put) k pl × ((place_sees w' k pl ≡ place_sees w k pl) ⊎ ((k ≡ put.key) × (place_sees w' k pl ≡ Some put.cell)))
 
--- the stores of a put: the words of its new cells, four for each, and at most one more change nothing that a pointer with a
--- path reads, one by one; the publishing store adds the put; the last one counts it
+-- the stores of a put: the words of its new cells, four for each cell, and at most one store into a free slot, change nothing
+-- that a pointer with a path reads, one by one; the publishing store adds the put; the last one counts it and changes nothing
+-- else; the number of the stores tells the number of the new cells
 pub record IsPutBy (w : List ℕ) (g : Ledger) (cells : ℕ) (put : Put) (stores : List WordStore) : Type 0 where
   pub words : List ℕ
   pub slot : List WordStore
@@ -49,6 +50,7 @@ pub record IsPutBy (w : List ℕ) (g : Ledger) (cells : ℕ) (put : Put) (stores
   pub is_publish : publish.kind ≡ Publish
   pub before : (n : ℕ) → IsSame w (after w (take n front)) g
   pub published : IsPublished w (after w (front ++ publish ∷ [])) g cells own put
+  pub counting : IsSame (after w (front ++ publish ∷ [])) (after w stores) (with_put g own put)
   pub finished : IsWellFormed (after w stores) (with_put g own put) cells
   pub counted : slice_index (after w stores) 0 ≡ slice_index w 0 + 1
 
