@@ -56,3 +56,4 @@ pub mod Left
 pub mod Ready
 pub mod Finals
 pub mod PutLaw
+pub mod Held

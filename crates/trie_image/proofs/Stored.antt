@@ -9,9 +9,13 @@ pub after_append : (w : List ℕ) (a b : List WordStore) → after w (a ++ b) �
 after_append w [] b = refl
 after_append w (s ∷ a) b = after_append (set w s.word s.value) a b
 
+-- there are as many as before
+pub length-after : (w : List ℕ) (stores : List WordStore) → length (after w stores) ≡ length w
+length-after w [] = refl
+length-after w (s ∷ stores) = length-after (set w s.word s.value) stores ∙ length-set w s.word s.value
+
 pub length-prepared : (w : List ℕ) (at : ℕ) (ws : List ℕ) → length (after w (prepares at ws)) ≡ length w
-length-prepared w at [] = refl
-length-prepared w at (x ∷ xs) = length-prepared (set w at x) (at + 1) xs ∙ length-set w at x
+length-prepared w at ws = length-after w (prepares at ws)
 
 -- words before them stay
 pub before_prepared : (w : List ℕ) (at i : ℕ) (ws : List ℕ) → i < at → slice_index (after w (prepares at ws)) i ≡ slice_index w i

@@ -13,3 +13,4 @@ pub mod Stores
 pub mod After
 pub mod Laws
 pub mod Publish
+pub mod Held

@@ -15,6 +15,7 @@ use std::collections::LinkedList;
 
 mod body;
 pub mod exit;
+pub mod owned;
 pub mod plan;
 pub mod walk;
 
