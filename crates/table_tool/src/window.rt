@@ -145,7 +145,34 @@ impl Window {
         Ok(true)
     }
 
-    /// Reads the file ahead, until the longest row is among the unused bytes or the file ends behind them.
+    /// Reads the file ahead page by page, until there is enough of it or it ends.
+    #[inline(never)]
+    fn read_ahead<K: Store>(
+        &mut self,
+        alloc: Global,
+        store: &mut K,
+        file: FileId,
+    ) -> Result<(), ReadError>
+        ensures told { IfSome (K.files store.old) (λ m. Continues (bytes_of m file) self.old → IfOk result (λ _. Continues (bytes_of m file) self.new)) }
+        ensures full { IfOk result (λ _. IsFull self.new) }
+        ensures place { self.new.at ≡ self.old.at }
+        ensures limit { self.new.limit ≡ self.old.limit }
+        ensures files { K.files store.new ≡ K.files store.old }
+        ensures later { K.faults store.old ≤ K.faults store.new }
+        ensures fault { result ≡ Err ReadError.StoreFault → Rose (K.faults store.old) (K.faults store.new) }
+    {
+        self.compact(alloc)?;
+        let mut page = [0u8; PAGE];
+        'pages: loop {
+            if !self.read_page(store, file, &mut page)? || self.unread().len() >= AHEAD {
+                return Ok(());
+            }
+        }
+    }
+
+    /// Reads the file ahead where the longest row isn't among the unused bytes and they don't end it.
+    ///
+    /// It is asked before each row, so the page stands in a function of its own: an array is paid for at entry.
     pub fn fill<K: Store>(
         &mut self,
         alloc: Global,
@@ -163,12 +190,6 @@ impl Window {
         if self.whole || self.unread().len() >= ENOUGH {
             return Ok(());
         }
-        self.compact(alloc)?;
-        let mut page = [0u8; PAGE];
-        'pages: loop {
-            if !self.read_page(store, file, &mut page)? || self.unread().len() >= AHEAD {
-                return Ok(());
-            }
-        }
+        self.read_ahead(alloc, store, file)
     }
 }

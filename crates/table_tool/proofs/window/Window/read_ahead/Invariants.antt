@@ -2,7 +2,7 @@ use Rattle.std.proofs.Common.{◌≡◌, ◌≤◌, ◌-◌, length}
 use Rattle.std.specs.Prelude.{IfSome}
 use Rattle.outside.specs.Files.{bytes_of}
 use Rattle.table_tool.specs.Window.{Continues}
-use Rattle.table_tool.proofs.window.Window.fill.Given as goal
+use Rattle.table_tool.proofs.window.Window.read_ahead.Given as goal
 
 abbrev pub invariant-pages : goal.invariant-pages
 invariant-pages g l =
