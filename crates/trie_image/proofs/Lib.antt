@@ -56,4 +56,5 @@ pub mod Left
 pub mod Ready
 pub mod Finals
 pub mod PutLaw
+pub mod Ways
 pub mod Held

@@ -5,6 +5,7 @@ pub mod Cell
 pub mod Puts
 pub mod WellFormed
 pub mod Place
+pub mod Way
 pub mod Same
 pub mod Relink
 pub mod Exit

@@ -1,10 +1,13 @@
 //! The walk to a key, one load after the other.
+//!
+//! Each function is inlined: where a place is made its role is known, so a lookup chooses once for a node and not at each load.
 
 ghost use Rattle.std.specs.Prelude.{◌≡◌, ◌<◌, ◌^◌, ◌*◌, ℕ, length, slice_get, Some, None};
 ghost use Rattle.trie_image.specs.declared.Ledger.{Ledger};
 ghost use Rattle.trie_image.specs.Place.{start_place, next_word_of, outcome_of, follow, node_place, inward, prefix_step, node_step};
 ghost use Rattle.trie_image.specs.Puts.{HasLastPut};
 ghost use Rattle.trie_image.specs.WellFormed.{IsWellFormed, HasLedger};
+ghost use Rattle.trie_image.specs.Way.{OnTheWay, LeadsTo};
 
 use crate::{Advance, Place, Rec, Role};
 use cell_layout::{Kind, Ptr, chain_byte, half, head_parts, kind_of, sparse_find};
@@ -22,6 +25,7 @@ pub fn start() -> Place
 }
 
 /// The word of the image that the place loads next.
+#[inline(always)]
 pub fn next_word(place: &Place) -> u32
     requires { next_word_of place.now < 2 ^ 32 }
     ensures { result ≡ next_word_of place.now }
@@ -41,6 +45,7 @@ pub fn next_word(place: &Place) -> u32
 }
 
 /// The place of a pointer that was loaded, after so many bytes of the key.
+#[inline(always)]
 fn follow(key: &[u8], p: Ptr, taken: u32) -> Advance
     requires { length key.now < 2 ^ 32 }
     ensures { result ≡ follow key.now p.0 taken }
@@ -74,35 +79,35 @@ fn follow(key: &[u8], p: Ptr, taken: u32) -> Advance
     }
 }
 
+#[inline(always)]
 fn node_place(key: &[u8], p: Ptr, taken: u32, kind: Option<Kind>) -> Advance
     ensures { result ≡ node_place key.now p.0 taken kind (slice_get key.now taken) }
 {
-    let Some(&byte) = key.get(taken as usize) else {
-        return Advance::Absent;
-    };
+    let at = taken as usize;
     match kind {
-        Some(Kind::Chain) => Advance::On(Place {
+        Some(Kind::Chain) if at < key.len() => Advance::On(Place {
             role: Role::Chain,
             ptr: p.0,
             part: 0,
             taken,
         }),
-        Some(Kind::Sparse) => Advance::On(Place {
+        Some(Kind::Sparse) if at < key.len() => Advance::On(Place {
             role: Role::Order,
             ptr: p.0,
             part: 0,
             taken,
         }),
-        Some(Kind::Wide) => Advance::On(Place {
+        Some(Kind::Wide) if at < key.len() => Advance::On(Place {
             role: Role::Top,
             ptr: p.0,
-            part: byte,
+            part: key[at],
             taken,
         }),
         _ => Advance::Absent,
     }
 }
 
+#[inline(always)]
 fn inward(role: Role, p: Ptr, part: u8, taken: u32) -> Advance
     ensures { result ≡ inward role p.0 part taken }
 {
@@ -119,6 +124,7 @@ fn inward(role: Role, p: Ptr, part: u8, taken: u32) -> Advance
 }
 
 /// The place after a prefix cell's word, which has both its pointers.
+#[inline(always)]
 fn prefix_step(key: &[u8], loaded: u64, taken: u32) -> Advance
     ensures { result ≡ prefix_step key.now loaded taken }
 {
@@ -139,6 +145,7 @@ fn prefix_step(key: &[u8], loaded: u64, taken: u32) -> Advance
     }
 }
 
+#[inline(always)]
 fn chain_step(key: &[u8], p: u32, taken: u32, loaded: u64, byte: u8) -> Advance
     requires inside { taken < length key.now }
     requires small { length key.now < 2 ^ 32 }
@@ -157,6 +164,7 @@ fn chain_step(key: &[u8], p: u32, taken: u32, loaded: u64, byte: u8) -> Advance
     }
 }
 
+#[inline(always)]
 fn node_step(key: &[u8], place: &Place, loaded: u64, byte: u8) -> Advance
     requires inside { place.now.taken < length key.now }
     requires small { length key.now < 2 ^ 32 }
@@ -189,6 +197,7 @@ fn node_step(key: &[u8], place: &Place, loaded: u64, byte: u8) -> Advance
 /// It is total: any loaded word is met, and `law_falls` bounds the walk. For a place of a well-formed image and the word
 /// that stands there, `law_advance` says what the outcome means.
 #[tactic(auto, unfolding(crate::specs::Place::outcome_of))]
+#[inline(always)]
 pub fn advance(place: &Place, loaded: u64, key: &[u8]) -> Advance
     requires { length key.now < 2 ^ 32 }
     ensures { result ≡ outcome_of place.now loaded key.now }
@@ -211,6 +220,54 @@ pub fn advance(place: &Place, loaded: u64, key: &[u8]) -> Advance
     }
 }
 
+/// The outcome of a place's load.
+#[inline(always)]
+fn load(words: &[u64], place: Place, key: &[u8]) -> Advance
+    requires image { HasLedger words.now }
+    requires small { length key.now < 2 ^ 32 }
+    requires way { OnTheWay words.now key.now place }
+    ensures { LeadsTo words.now key.now place result }
+{
+    advance(&place, words[next_word(&place) as usize], key)
+}
+
+/// The outcome of one load more, where the walk goes on.
+#[inline(always)]
+fn load_more(words: &[u64], place: Place, outcome: Advance, key: &[u8]) -> Advance
+    requires image { HasLedger words.now }
+    requires small { length key.now < 2 ^ 32 }
+    requires leads { LeadsTo words.now key.now place outcome }
+    ensures { LeadsTo words.now key.now place result }
+{
+    match outcome {
+        Advance::On(next) => load(words, next, key),
+        _ => outcome,
+    }
+}
+
+/// The outcome of all loads in a node's cells, or of one load elsewhere.
+#[inline(always)]
+fn pass(words: &[u64], place: Place, key: &[u8]) -> Advance
+    requires image { HasLedger words.now }
+    requires small { length key.now < 2 ^ 32 }
+    requires way { OnTheWay words.now key.now place }
+    ensures { LeadsTo words.now key.now place result }
+{
+    match place.role {
+        Role::Chain => load(words, place, key),
+        Role::Order => {
+            let slot = load(words, place, key);
+            load_more(words, place, slot, key)
+        }
+        Role::Top => {
+            let mid = load(words, place, key);
+            let leaf = load_more(words, place, mid, key);
+            load_more(words, place, leaf, key)
+        }
+        _ => load(words, place, key),
+    }
+}
+
 /// The record of the key's last put in the image, or None where no put has the key.
 pub fn lookup(words: &[u64], key: &[u8]) -> Option<Rec>
     requires image { HasLedger words.now }
@@ -219,8 +276,7 @@ pub fn lookup(words: &[u64], key: &[u8]) -> Option<Rec>
 {
     let mut place = start();
     'loads: loop {
-        let word = words[next_word(&place) as usize];
-        match advance(&place, word, key) {
+        match pass(words, place, key) {
             Advance::On(next) => place = next,
             Advance::Found(rec) => return Some(rec),
             Advance::Absent => return None,
