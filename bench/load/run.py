@@ -1,0 +1,133 @@
+#!/usr/bin/env python3
+"""Compares `load` and then `scan` with a plain Rust program of the same design and with sqlite3: 500,000 put lines with keys in random order, some of
+them put again, each run in an empty folder. The plain program has to write the same files and the same text, and sqlite3 to give the same rows."""
+import os
+import random
+import shutil
+import sys
+import tempfile
+
+HERE = os.path.dirname(os.path.abspath(__file__))
+sys.path.insert(0, os.path.join(HERE, ".."))
+from compare import RUNS, Runs, build_plain, instructions, measured, peak, print_busy, program_of, same
+
+LINES = 500_000
+STEPS = ["load", "scan"]
+FILES = ["1-Data.db", "1-Schema.txt"]
+TABLE = "create table rows (key integer primary key on conflict replace, value text) without rowid"
+# A cache of this many KiB holds the whole table; sqlite3's own is 2,000.
+CACHE = 131_072
+
+
+def write_puts(script, csv):
+    """The puts as a script, and as rows of numbers and texts."""
+    random.seed(7)
+    with open(script, "w", encoding="ascii") as lines, open(csv, "w", encoding="ascii") as rows:
+        for _ in range(LINES):
+            key = random.randrange(-1_200_000, 1_200_000)
+            value = "value %08x" % random.getrandbits(32)
+            lines.write("put (%d) () = '%s'\n" % (key, value))
+            rows.write("%d,%s\n" % (key, value))
+
+
+def sqlite_calls(csv, cache):
+    """The calls of sqlite3 that import the rows and print them in order, without a journal and without waiting for the disk."""
+    pragmas = ["pragma journal_mode=off", "pragma synchronous=off"] + cache
+    load = ["sqlite3", "table.db"] + pragmas + [TABLE, ".mode csv", ".import %s rows" % csv]
+    return {"load": load, "scan": ["sqlite3", "table.db", "select key, value from rows order by key"]}
+
+
+def calls_of(program, plain, csv):
+    """The calls of each of the compared programs by their step."""
+    calls = {
+        "proved": {"load": [program, "load", "--schema", "(int; ; text)"], "scan": [program, "scan"]},
+        "plain": {"load": [plain, "load"], "scan": [plain, "scan"]},
+    }
+    if shutil.which("sqlite3") is None:
+        print("sqlite3 is missing, so it isn't compared")
+        return calls
+    calls["sqlite3"] = sqlite_calls(csv, [])
+    calls["sqlite3, big cache"] = sqlite_calls(csv, ["pragma cache_size=-%d" % CACHE])
+    return calls
+
+
+def empty(folder):
+    shutil.rmtree(folder, ignore_errors=True)
+    os.mkdir(folder)
+
+
+def run_once(name, calls, at, runs):
+    """Loads and scans in an empty folder."""
+    empty(at(name))
+    for step in STEPS:
+        runs[step].add(*measured(calls[step], at(step + ".in"), at("%s.%s" % (name, step)), at(name)))
+
+
+def count_once(name, calls, at, runs):
+    """The same in folders of their own, with the memory and the instructions counted."""
+    counts = {}
+    for counter in [peak, instructions]:
+        empty(at("counted"))
+        counts[counter] = {step: counter(calls[step], at(step + ".in"), at("counted")) for step in STEPS}
+    for step in STEPS:
+        runs[step].count(counts[peak][step], counts[instructions][step])
+
+
+def rows_text(printed):
+    """The text of `scan` for what sqlite3 printed."""
+    lines = open(printed, encoding="ascii").read().splitlines()
+    rows = ["(%s) () = '%s'\n" % tuple(line.split("|", 1)) for line in lines]
+    return "".join(rows) + "rows %d\n" % len(rows)
+
+
+def check(names, at):
+    """Ends where the programs differ in a file or a text."""
+    for step in STEPS:
+        if not same(at("proved." + step), at("plain." + step)):
+            sys.exit("the two print different text for " + step)
+    for name in FILES:
+        if not same(at("proved/" + name), at("plain/" + name)):
+            sys.exit("the two write different bytes to " + name)
+    for folder in ["proved", "plain"]:
+        if sorted(os.listdir(at(folder))) != FILES:
+            sys.exit("%s leaves other files than %s" % (folder, ", ".join(FILES)))
+    scanned = open(at("proved.scan"), encoding="ascii").read()
+    for name in names:
+        if name.startswith("sqlite3") and rows_text(at(name + ".scan")) != scanned:
+            sys.exit(name + " has other rows")
+
+
+def run_all(calls, at):
+    runs = {name: {step: Runs() for step in STEPS} for name in calls}
+    for _ in range(RUNS):
+        for name in calls:
+            run_once(name, calls[name], at, runs[name])
+    check(calls, at)
+    for name in calls:
+        count_once(name, calls[name], at, runs[name])
+    return runs
+
+
+def print_runs(runs):
+    for step in STEPS:
+        print(step)
+        for name in runs:
+            print(runs[name][step].row(name))
+        for name in list(runs)[1:]:
+            print("proved to %s: %s" % (name, runs["proved"][step].ratio(runs[name][step])))
+    print_busy()
+
+
+def main():
+    program = program_of("sigvhal")
+    if program is None:
+        return
+    with tempfile.TemporaryDirectory() as folder:
+        at = lambda name: os.path.join(folder, name)
+        build_plain(os.path.join(HERE, "plain.rs"), at("plain.program"))
+        write_puts(at("load.in"), at("rows.csv"))
+        open(at("scan.in"), "wb").close()
+        print_runs(run_all(calls_of(program, at("plain.program"), at("rows.csv")), at))
+
+
+main()
