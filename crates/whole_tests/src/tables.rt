@@ -140,7 +140,7 @@ fn a_refused_script_leaves_no_file(rt: HostRuntime) -> Result<(), TestFail> {
     let mut store = empty(alloc);
     let (number, text) = said(&rt, alloc, &LOAD, b"put (1) () = 'a'\nput", &mut store)?;
     assert_eq!(rt; number, 2);
-    assert_eq!(rt; text.as_slice(), b"error: line 2: bad text at 0\n".as_slice());
+    assert_eq!(rt; text.as_slice(), b"error: line 2: bad text at 3\n".as_slice());
     assert_eq!(rt; store.contents(DATA), None);
     assert_eq!(rt; store.contents(SCHEMA), None);
     Ok(())
