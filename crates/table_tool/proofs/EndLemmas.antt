@@ -1,7 +1,6 @@
 -- How a scan ends.
-use Rattle.std.proofs.Common.{◌≡◌, ◌≢◌, ◌⊎◌, ◌↔◌, ℕ, ◌+◌, ◌-◌, ◌<◌, ◌≤◌, ◌^◌, min, Bool, true, false, List, [], ◌∷◌, ◌++◌, length, take, drop, Option, None, Some, Result, Ok, Err, IsTrue, inl, inr, refl, sym, ap, ◌∙◌, subst, arith, append_assoc, length-append, ⊎_elim}
+use Rattle.std.proofs.Common.{◌≡◌, ◌≢◌, ◌⊎◌, ◌↔◌, ℕ, ◌+◌, ◌<◌, ◌≤◌, ◌^◌, min, Bool, true, false, List, [], ◌∷◌, ◌++◌, length, take, drop, Option, None, Some, Result, Ok, Err, IsTrue, inl, inr, refl, sym, ap, ◌∙◌, subst, arith, append_assoc, length-append, ⊎_elim}
 use Rattle.std.proofs.lemmas.List.{append-nil, take_all, take-append-le, length-take}
-use Rattle.std.proofs.Math.Seq.{take-append_seam}
 use Rattle.std.proofs.lemmas.Slice.Eq.{bytes_eq-Decides}
 use Rattle.std.specs.Prelude.{IfSome}
 use Rattle.std.specs.Str.{bytes_eq}
@@ -28,7 +27,7 @@ use Rattle.table_tool.specs.Walk.{Passes, Stops, Walks}
 use Rattle.table_tool.specs.Walk as walks
 use Rattle.table_tool.specs.Window.{Unread, Continues}
 use Rattle.table_tool.proofs.PrintedLemmas.{lines_append}
-use Rattle.table_tool.proofs.ScanLemmas.{cut_prefix, pushed_prefix}
+use Rattle.table_tool.proofs.ScanLemmas.{cut_prefix}
 
 -- ---- what is told
 
@@ -121,8 +120,8 @@ module _ (files : Option Files) (a b : Option (List ℕ)) (sink sink' : ℕ) whe
   pub refused : (expected result : Status) → (expected ≡ status.StoreFault) ⊎ (expected ≡ status.Unfinished) → IsOrNoMemory expected result → WhereTold a b (Refuses result sink sink') → Prints files a b sink sink' result
   refused expected result which is told =
       ⊎_elim (λ (e : result ≡ expected). ⊎_elim
-        (λ (w : expected ≡ status.StoreFault). let at : result ≡ status.StoreFault = e ∙ w in subst (λ (r : Status). Prints files a b sink sink' r) (sym at) (no_store (subst (λ (r : Status). WhereTold a b (Refuses r sink sink')) at told)))
-        (λ (w : expected ≡ status.Unfinished). let at : result ≡ status.Unfinished = e ∙ w in subst (λ (r : Status). Prints files a b sink sink' r) (sym at) (no_schema (subst (λ (r : Status). WhereTold a b (Refuses r sink sink')) at told))) which)
+      (λ (w : expected ≡ status.StoreFault). let at : result ≡ status.StoreFault = e ∙ w in subst (λ (r : Status). Prints files a b sink sink' r) (sym at) (no_store (subst (λ (r : Status). WhereTold a b (Refuses r sink sink')) at told)))
+      (λ (w : expected ≡ status.Unfinished). let at : result ≡ status.Unfinished = e ∙ w in subst (λ (r : Status). Prints files a b sink sink' r) (sym at) (no_schema (subst (λ (r : Status). WhereTold a b (Refuses r sink sink')) at told))) which)
       (λ (e : result ≡ status.NoMemory). subst (λ (r : Status). Prints files a b sink sink' r) (sym e) (no_memory (subst (λ (r : Status). WhereTold a b (Refuses r sink sink')) e told))) (either expected result is)
 
 -- ---- the end of the walk
@@ -193,12 +192,12 @@ fresh files scan limit window outside text rows long = record {
 
 whole_one : (file page : List ℕ) (n : ℕ) → length page ≡ 4096 → n ≡ min (length page) (length (drop 0 file)) → take n page ≡ take n (drop 0 file) → IsTrue (bytes_eq (take n page) schema_text) ↔ (file ≡ schema_text)
 whole_one file page n long count same =
-  let size : n ≡ min (length page) (length file) = count in (
-  (λ true. let is : take n page ≡ schema_text = (bytes_eq-Decides (take n page) schema_text).0 true in
-    let short : length (take n file) ≡ 30 = ap length (sym same ∙ is) in
-    sym (take_all n file (omega (arith, short, size, long, length-take n file))) ∙ (sym same ∙ is)),
-  (λ is. (bytes_eq-Decides (take n page) schema_text).1 (same ∙ (take_all n file (omega (arith, size, long, ap length is)) ∙ is)))
-)
+    let size : n ≡ min (length page) (length file) = count in (
+      (λ true. let is : take n page ≡ schema_text = (bytes_eq-Decides (take n page) schema_text).0 true in
+          let short : length (take n file) ≡ 30 = ap length (sym same ∙ is) in
+          sym (take_all n file (omega (arith, short, size, long, length-take n file))) ∙ (sym same ∙ is)),
+      (λ is. (bytes_eq-Decides (take n page) schema_text).1 (same ∙ (take_all n file (omega (arith, size, long, ap length is)) ∙ is))),
+    )
 
 pub whole_told : (files : Option Files) (page : List ℕ) (n : ℕ) (equal : Bool) → length page ≡ 4096 → equal ≡ bytes_eq (take n page) schema_text
     → IfSome files (λ m. (n ≡ min (length page) (length (drop 0 (bytes_of m schema_id)))) × (take n page ≡ take n (drop 0 (bytes_of m schema_id))) × (length (bytes_of m schema_id) < 2 ^ 62))
@@ -215,7 +214,7 @@ module _ (types : Types) (none_static : types.static_value ≡ None) where
   rows_walk [] key tail entries are next at = walks.closes at key (0 ∷ tail) tail entries None refl (next (at + 1))
   rows_walk (r ∷ rows) key tail entries (is, are) next at =
       let bytes : ((row_bytes r.clustering r.value ++ rows_bytes rows) ++ end_bytes) ++ tail ≡ row_bytes r.clustering r.value ++ ((rows_bytes rows ++ end_bytes) ++ tail) =
-          ap (λ b. b ++ tail) (append_assoc (row_bytes r.clustering r.value) (rows_bytes rows) end_bytes) ∙ append_assoc (row_bytes r.clustering r.value) (rows_bytes rows ++ end_bytes) tail in
+      ap (λ b. b ++ tail) (append_assoc (row_bytes r.clustering r.value) (rows_bytes rows) end_bytes) ∙ append_assoc (row_bytes r.clustering r.value) (rows_bytes rows ++ end_bytes) tail in
       walks.row at key r.clustering r.value (((row_bytes r.clustering r.value ++ rows_bytes rows) ++ end_bytes) ++ tail) ((rows_bytes rows ++ end_bytes) ++ tail) (row_entries key rows ++ entries) None is bytes
       (rows_walk rows key tail entries are next (at + length (row_bytes r.clustering r.value)))
 
@@ -224,7 +223,7 @@ module _ (types : Types) (none_static : types.static_value ≡ None) where
   partitions_walk (p ∷ partitions) (is, fixed, rows, are) at =
       let tail : List ℕ = data_bytes None partitions in
       let bytes : (head_bytes p.key ++ (rows_bytes p.rows ++ end_bytes)) ++ tail ≡ head_bytes p.key ++ ((rows_bytes p.rows ++ end_bytes) ++ tail) =
-          append_assoc (head_bytes p.key) (rows_bytes p.rows ++ end_bytes) tail in
+      append_assoc (head_bytes p.key) (rows_bytes p.rows ++ end_bytes) tail in
       walks.head at p.key ((head_bytes p.key ++ (rows_bytes p.rows ++ end_bytes)) ++ tail) ((rows_bytes p.rows ++ end_bytes) ++ tail) (row_entries p.key p.rows ++ entries_in partitions) None is bytes
       (rows_walk p.rows p.key tail (entries_in partitions) rows (partitions_walk partitions are) (at + length (head_bytes p.key)))
 

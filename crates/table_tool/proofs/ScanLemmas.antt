@@ -9,11 +9,10 @@ use Rattle.key_types.specs.Table.{Entry}
 use Rattle.bti_nodes.specs.declared.damage.Damage.{Damage}
 use Rattle.data_file.specs.Types.{Types}
 use Rattle.table_tool.specs.declared.walk.Walk.{Walk}
-use Rattle.table_tool.specs.declared.walk.Met.{Met}
 use Rattle.table_tool.specs.declared.walk.Met.TheVariants as met
 use Rattle.table_tool.specs.declared.scan.Scan.{Scan}
 use Rattle.table_tool.specs.declared.scan.Turn.TheVariants.{On, Stopped}
-use Rattle.table_tool.specs.Printed.{entry_line, entry_lines}
+use Rattle.table_tool.specs.Printed.{entry_line}
 use Rattle.table_tool.specs.Scanned.{Holding, IsBounded, TurnIs}
 use Rattle.table_tool.specs.Scanning.{IsShown, part}
 use Rattle.table_tool.specs.Outcome.{AppendsPrefix}
@@ -66,25 +65,39 @@ module _ (files : Option Files) (scan : Scan) (filled : Unread) (place : filled.
   walked_on (Some m) walk' entries more moves read walked =
       let next = moves.3 (bytes_of m data_id) (read walked.0) in
       let from : Passes first_types (bytes_of m data_id) None 0 entries (inside_of scan.walk) filled.at =
-          subst (λ (n : ℕ). Passes first_types (bytes_of m data_id) None 0 entries (inside_of scan.walk) n) (sym place) walked.1 in
+      subst (λ (n : ℕ). Passes first_types (bytes_of m data_id) None 0 entries (inside_of scan.walk) n) (sym place) walked.1 in
       (next.0, passes_on first_types (bytes_of m data_id) entries (inside_of scan.walk) filled.at from (inside_of walk') walk'.window.at more next.1)
 
   pub row_turn : (walk' : Walk) (text' : List ℕ) (rows' : ℕ) → rows' ≡ scan.rows + 1 → StepIs ahead walk' scan.text text' met.Row
       → TurnIs files scan (record { walk = walk'; text = text'; rows = rows' }) On
-  row_turn walk' text' rows' count (entry, line, moves) = (omega (arith, moves.0, place), moves.2 ∙ limit, λ pushed entries held. (entries ++ entry ∷ [], record {
-    walked = walked_on files walk' entries (entry ∷ []) moves told held.walked;
-    text = ap (λ t. pushed ++ t) line ∙ (sym (append_assoc pushed scan.text (entry_line entry)) ∙ (ap (λ t. t ++ entry_line entry) held.text ∙ lines_more entries entry));
-    count = omega (arith, count, held.count, length-append entries (entry ∷ []));
-  }))
+  row_turn walk' text' rows' count (entry, line, moves) = (
+    omega (arith, moves.0, place),
+    moves.2 ∙ limit,
+    λ pushed entries held. (
+      entries ++ entry ∷ [],
+      record {
+        walked = walked_on files walk' entries (entry ∷ []) moves told held.walked;
+        text = ap (λ t. pushed ++ t) line ∙ (sym (append_assoc pushed scan.text (entry_line entry)) ∙ (ap (λ t. t ++ entry_line entry) held.text ∙ lines_more entries entry));
+        count = omega (arith, count, held.count, length-append entries (entry ∷ []));
+      },
+    ),
+  )
 
   pub border_turn : (walk' : Walk) (text' : List ℕ) → StepIs ahead walk' scan.text text' met.Border
       → TurnIs files scan (record { walk = walk'; text = text'; rows = scan.rows }) On
   unfolding Walked
-  border_turn walk' text' (line, moves) = (omega (arith, moves.0, place), moves.2 ∙ limit, λ pushed entries held. (entries, record {
-    walked = subst (λ (es : List Entry). Walked walk' es) (append-nil entries) (walked_on files walk' entries [] moves told held.walked);
-    text = ap (λ t. pushed ++ t) line ∙ held.text;
-    count = held.count;
-  }))
+  border_turn walk' text' (line, moves) = (
+    omega (arith, moves.0, place),
+    moves.2 ∙ limit,
+    λ pushed entries held. (
+      entries,
+      record {
+        walked = subst (λ (es : List Entry). Walked walk' es) (append-nil entries) (walked_on files walk' entries [] moves told held.walked);
+        text = ap (λ t. pushed ++ t) line ∙ held.text;
+        count = held.count;
+      },
+    ),
+  )
 
   stopped : (fs : Option Files) (entries : List Entry) (stop : Option Damage)
       → ((file : List ℕ) → Continues file filled → Stops first_types file (inside_of scan.walk) filled.at [] stop)
@@ -94,7 +107,7 @@ module _ (files : Option Files) (scan : Scan) (filled : Unread) (place : filled.
   stopped None entries stop halts read walked = tt
   stopped (Some m) entries stop halts read walked =
       let from : Passes first_types (bytes_of m data_id) None 0 entries (inside_of scan.walk) filled.at =
-          subst (λ (n : ℕ). Passes first_types (bytes_of m data_id) None 0 entries (inside_of scan.walk) n) (sym place) walked.1 in
+      subst (λ (n : ℕ). Passes first_types (bytes_of m data_id) None 0 entries (inside_of scan.walk) n) (sym place) walked.1 in
       passes_stop first_types (bytes_of m data_id) entries (inside_of scan.walk) filled.at from stop (halts (bytes_of m data_id) (read walked.0))
 
   pub end_turn : (walk' : Walk) (text' : List ℕ) → StepIs ahead walk' scan.text text' met.End
@@ -124,9 +137,11 @@ cut_prefix None None (Some c) pushed text lines is told more = absurd more
 cut_prefix None (Some b) c pushed text lines is told more = absurd told
 cut_prefix (Some a) None c pushed text lines is told more = absurd told
 cut_prefix (Some a) (Some b) None pushed text lines is told more = absurd more
-cut_prefix (Some a) (Some b) (Some c) pushed text lines is told (k, short, e) =
-    (length pushed + k, omega (arith, ap length is, length-append pushed text),
-     e ∙ (ap (λ t. t ++ take k text) told ∙ (append_assoc a pushed (take k text) ∙ ap (λ t. a ++ t) (sym (take-append-add pushed text k) ∙ ap (take (length pushed + k)) is))))
+cut_prefix (Some a) (Some b) (Some c) pushed text lines is told (k, short, e) = (
+  length pushed + k,
+  omega (arith, ap length is, length-append pushed text),
+  e ∙ (ap (λ t. t ++ take k text) told ∙ (append_assoc a pushed (take k text) ∙ ap (λ t. a ++ t) (sym (take-append-add pushed text k) ∙ ap (take (length pushed + k)) is))),
+)
 
 -- two pushes, one behind the other
 pub pushed_on : (written between written' : Option (List ℕ)) (pushed piece : List ℕ) → WhereTold written between (λ before after. after ≡ before ++ pushed)

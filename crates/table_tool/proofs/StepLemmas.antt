@@ -1,5 +1,5 @@
 -- Steps of a walk over a window.
-use Rattle.std.proofs.Common.{◌≡◌, ◌≢◌, ◌⊎◌, ℕ, ◌+◌, ◌/◌, ◌%◌, ◌<◌, ◌≤◌, Bool, true, false, List, [], ◌∷◌, ◌++◌, length, drop, Option, None, Some, inl, inr, Result, Ok, Err, refl, sym, ap, ◌∙◌, subst, arith, append_assoc, length-append, ⊎_elim}
+use Rattle.std.proofs.Common.{◌≡◌, ◌≢◌, ℕ, ◌+◌, ◌/◌, ◌%◌, ◌<◌, ◌≤◌, Bool, true, false, List, [], ◌∷◌, ◌++◌, length, drop, Option, None, Some, inl, inr, refl, sym, ap, ◌∙◌, subst, arith, append_assoc, length-append, ⊎_elim}
 use Rattle.std.proofs.lemmas.List.{drop-drop, drop-append-le, append-nil}
 use Rattle.std.specs.Prelude.{if◌then◌else◌}
 use Rattle.std.specs.Fmt.{signed_decimal}
@@ -14,7 +14,7 @@ use Rattle.data_file.specs.Reading.{BeginsEnd, BeginsHead, BeginsRow, NoHead, No
 use Rattle.data_file.proofs.Found.{no_head_on}
 use Rattle.table_tool.specs.declared.walk.Walk.{Walk}
 use Rattle.table_tool.specs.declared.walk.Met.{Met}
-use Rattle.table_tool.specs.declared.walk.Met.TheVariants.{Row, Border, End, Damaged}
+use Rattle.table_tool.specs.declared.walk.Met.TheVariants.{Damaged}
 use Rattle.table_tool.specs.Printed.{entry_line, number_in}
 use Rattle.table_tool.specs.Standing.{first_types}
 use Rattle.table_tool.specs.Window.{Unread, Continues, IsFull, enough}
@@ -70,9 +70,16 @@ moving : (w v : Unread) (n : ℕ) (front rest : List ℕ) (inside inside' : Opti
     → Moving w v inside inside' entries
 moving w v n front rest inside inside' entries room is count some begins passes =
     let fits : n ≤ length w.bytes = omega (arith, ap length begins, length-append front rest) in
-    subst (λ (u : Unread). Moving w u inside inside' entries) (sym is) (omega arith, omega arith, refl, λ file c.
-      (passed file w n c fits, subst (λ (k : ℕ). Passes first_types file inside w.at entries inside' (w.at + k)) (sym count)
-        (passes file (rest ++ c.rest) (c.is ∙ ap (λ b. b ++ c.rest) begins ∙ append_assoc front rest c.rest))))
+    subst (λ (u : Unread). Moving w u inside inside' entries) (sym is) (
+      omega arith,
+      omega arith,
+      refl,
+      λ file c. (
+        passed file w n c fits,
+        subst (λ (k : ℕ). Passes first_types file inside w.at entries inside' (w.at + k)) (sym count)
+            (passes file (rest ++ c.rest) (c.is ∙ ap (λ b. b ++ c.rest) begins ∙ append_assoc front rest c.rest)),
+      ),
+    )
 
 pub moves_head : (types : Types) (w v : Unread) (n : ℕ) (inside : Option (List ℕ)) (key kept : List ℕ) → w.at + length w.bytes ≤ w.limit → types ≡ first_types → inside ≡ None → v ≡ passed_by n w → n ≡ length (head_bytes key)
     → BeginsHead types w.bytes key → kept ≡ key → Moving w v inside (Some kept) []
@@ -117,17 +124,23 @@ pub halts_head : (types : Types) (walk walk' : Walk) (text : List ℕ) (met : Me
     → NoHead types walk.window.bytes → met ≡ Damaged (damage_at walk.window.at BadHead) → StepIs walk walk' text text met
 halts_head types walk walk' text met first outside full some none is =
     let w : Unread = walk.window in
-    subst (λ (m : Met). StepIs walk walk' text text m) (sym is) (refl, λ file c.
-      subst (λ (o : Option (List ℕ)). Stops first_types file o walk.window.at [] (Some (damage_at walk.window.at BadHead))) (sym (is_outside walk outside))
-      (bad_head_stops first_types file walk.window.at (λ e. some_there walk.window.bytes c.rest some (sym c.is ∙ e))
-        (no_head_there file walk.window c full (subst (λ (t : Types). NoHead t walk.window.bytes) first none))))
+    subst (λ (m : Met). StepIs walk walk' text text m) (sym is) (
+      refl,
+      λ file c.
+          subst (λ (o : Option (List ℕ)). Stops first_types file o walk.window.at [] (Some (damage_at walk.window.at BadHead))) (sym (is_outside walk outside))
+          (bad_head_stops first_types file walk.window.at (λ e. some_there walk.window.bytes c.rest some (sym c.is ∙ e))
+          (no_head_there file walk.window c full (subst (λ (t : Types). NoHead t walk.window.bytes) first none))),
+    )
 
 pub halts_row : (walk walk' : Walk) (text : List ℕ) (met : Met) → (walk.inside ≡ false → ⊥)
     → ((file : List ℕ) → Continues file walk.window → NoRow first_types (drop walk.window.at file)) → met ≡ Damaged (damage_at walk.window.at BadRow) → StepIs walk walk' text text met
 halts_row walk walk' text met within none is =
-    subst (λ (m : Met). StepIs walk walk' text text m) (sym is) (refl, λ file c.
-      subst (λ (o : Option (List ℕ)). Stops first_types file o walk.window.at [] (Some (damage_at walk.window.at BadRow))) (sym (is_inside walk within))
-      (bad_row_stops first_types file walk.window.at walk.key (none file c)))
+    subst (λ (m : Met). StepIs walk walk' text text m) (sym is) (
+      refl,
+      λ file c.
+          subst (λ (o : Option (List ℕ)). Stops first_types file o walk.window.at [] (Some (damage_at walk.window.at BadRow))) (sym (is_inside walk within))
+          (bad_row_stops first_types file walk.window.at walk.key (none file c)),
+    )
 
 pub few_rows : (types : Types) (w : Unread) → types ≡ first_types → IsFull w → NoRow types w.bytes × (length w.bytes < 66564) → (file : List ℕ) → Continues file w → NoRow first_types (drop w.at file)
 few_rows types w first full (none, few) file c =

@@ -1,5 +1,5 @@
 -- What stands next in a file decides how a walk goes on.
-use Rattle.std.proofs.Common.{◌≡◌, ◌≢◌, ℕ, ◌+◌, List, [], ◌∷◌, ◌++◌, length, drop, Option, None, Some, refl, sym, ap, ◌∙◌, subst}
+use Rattle.std.proofs.Common.{◌≡◌, ◌≢◌, ℕ, ◌+◌, List, [], ◌∷◌, ◌++◌, length, drop, Option, None, Some, refl, sym, ◌∙◌, subst}
 use Rattle.key_types.specs.Table.{Entry}
 use Rattle.bti_nodes.specs.declared.damage.Cause.TheVariants.{BadHead, BadRow}
 use Rattle.bti_nodes.specs.declared.damage.Damage.{Damage}
@@ -25,17 +25,23 @@ module _ (types : Types) where
   head_only at key bytes rest all stop is e (ends _) = cc
   head_only at key bytes rest all stop is e (bad_head _ _ some none) = absurd (none key (is, (rest, e)))
   head_only at key bytes rest all stop is e (head _ key' _ rest' _ _ is' e' walk) =
-      let same = counted-same key' key rest' rest (sym e' ∙ e) in
-      (all, refl, subst (λ (r : List ℕ). Walks types (Some key) (at + length (head_bytes key)) r all stop) same.1
-      (subst (λ (k : List ℕ). Walks types (Some k) (at + length (head_bytes k)) rest' all stop) same.0 walk))
+      let same = counted-same key' key rest' rest (sym e' ∙ e) in (
+        all,
+        refl,
+        subst (λ (r : List ℕ). Walks types (Some key) (at + length (head_bytes key)) r all stop) same.1
+            (subst (λ (k : List ℕ). Walks types (Some k) (at + length (head_bytes k)) rest' all stop) same.0 walk),
+      )
 
   row_only : (at : ℕ) (key c v bytes rest : List ℕ) (all : List Entry) (stop : Option Damage) → IsRow types c v → bytes ≡ row_bytes c v ++ rest
       → Walks types (Some key) at bytes all stop → Goes ((key ++ c, v) ∷ []) (Some key) (at + length (row_bytes c v)) rest all stop
   row_only at key c v bytes rest all stop is e (row _ _ c' v' _ rest' entries _ is' e' walk) =
-      let same = row_front c' v' rest' c v rest (sym e' ∙ e) in
-      (entries, (λ i. (key ++ same.0 i, same.1 i) ∷ entries), subst (λ (r : List ℕ). Walks types (Some key) (at + length (row_bytes c v)) r entries stop) same.2
-      (subst (λ (b : List ℕ). Walks types (Some key) (at + length (row_bytes c b)) rest' entries stop) same.1
-      (subst (λ (a : List ℕ). Walks types (Some key) (at + length (row_bytes a v')) rest' entries stop) same.0 walk)))
+      let same = row_front c' v' rest' c v rest (sym e' ∙ e) in (
+        entries,
+        (λ i. (key ++ same.0 i, same.1 i) ∷ entries),
+        subst (λ (r : List ℕ). Walks types (Some key) (at + length (row_bytes c v)) r entries stop) same.2
+            (subst (λ (b : List ℕ). Walks types (Some key) (at + length (row_bytes c b)) rest' entries stop) same.1
+            (subst (λ (a : List ℕ). Walks types (Some key) (at + length (row_bytes a v')) rest' entries stop) same.0 walk)),
+      )
   row_only at key c v bytes rest all stop is e (closes _ _ _ rest' _ _ e' walk) = let apart : 0 ∷ rest' ≡ row_bytes c v ++ rest = sym e' ∙ e in cc
   row_only at key c v bytes rest all stop is e (bad_row _ _ _ none) = absurd (none.0 c v (is, (rest, e)))
 

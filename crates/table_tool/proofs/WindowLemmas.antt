@@ -1,7 +1,7 @@
 -- A window that is read ahead by a page.
-use Rattle.std.proofs.Common.{◌≡◌, ℕ, ◌+◌, ◌-◌, ◌<◌, ◌≤◌, ◌^◌, Bool, true, min, List, [], ◌++◌, length, take, drop, refl, sym, ◌∙◌, ap, arith, None, Some}
+use Rattle.std.proofs.Common.{◌≡◌, ℕ, ◌+◌, ◌-◌, ◌<◌, ◌^◌, true, min, List, [], ◌++◌, length, take, drop, sym, ◌∙◌, ap, arith, None, Some}
 use Rattle.std.specs.Prelude.{Option, IfSome}
-use Rattle.std.proofs.lemmas.List.{append_assoc, take-append-drop, drop-drop, length-append, length-drop, nil_from_length, length-take-le}
+use Rattle.std.proofs.lemmas.List.{append_assoc, take-append-drop, drop-drop, length-drop, nil_from_length}
 use Rattle.std.proofs.Math.Seq.{drop-append_seam}
 use Rattle.std.proofs.Math.ListN.{drop_of_length-le}
 use Rattle.outside.specs.Files.{Files, bytes_of}

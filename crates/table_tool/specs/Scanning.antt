@@ -1,5 +1,5 @@
 -- How `scan` ends, what it has written, and why. This project's own.
-use Rattle.std.specs.Prelude.{◌≡◌, ◌≢◌, ◌⊎◌, ℕ, List, [], ◌∷◌, ◌++◌, Option, Some, None, IfSome}
+use Rattle.std.specs.Prelude.{◌≡◌, ◌≢◌, ℕ, List, [], ◌++◌, Option, Some, None, IfSome}
 use Rattle.outside.specs.Causes.{Rose}
 use Rattle.outside.specs.Files.{Files, bytes_of}
 use Rattle.outside.specs.Told.{WhereTold}

@@ -1,5 +1,5 @@
 -- Bytes of a file that were read and are not yet used. This project's own.
-use Rattle.std.specs.Prelude.{◌≡◌, ◌⊎◌, ℕ, ◌+◌, ◌<◌, ◌≤◌, ◌^◌, Bool, true, List, [], ◌++◌, length, drop}
+use Rattle.std.specs.Prelude.{◌≡◌, ◌⊎◌, ℕ, ◌≤◌, Bool, true, List, [], ◌++◌, length, drop}
 
 -- the unused bytes, the place of the first of them, the length of the file, and whether the file ends behind the bytes
 pub record Unread : Type 0 where

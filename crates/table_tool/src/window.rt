@@ -125,9 +125,7 @@ impl Window {
         file: FileId,
         page: &mut [u8; PAGE],
     ) -> Result<bool, ReadError>
-        ensures told {
-            IfSome (K.files store.old) (λ m. Continues (bytes_of m file) self.old → IfOk result (λ _. Continues (bytes_of m file) self.new))
-        }
+        ensures told { IfSome (K.files store.old) (λ m. Continues (bytes_of m file) self.old → IfOk result (λ _. Continues (bytes_of m file) self.new)) }
         ensures more { IfOk result (λ more. more ≡ true → length self.old.bytes < length self.new.bytes) }
         ensures end { IfOk result (λ more. more ≡ false → self.new.whole ≡ true) }
         ensures place { self.new.at ≡ self.old.at }
@@ -154,9 +152,7 @@ impl Window {
         store: &mut K,
         file: FileId,
     ) -> Result<(), ReadError>
-        ensures told {
-            IfSome (K.files store.old) (λ m. Continues (bytes_of m file) self.old → IfOk result (λ _. Continues (bytes_of m file) self.new))
-        }
+        ensures told { IfSome (K.files store.old) (λ m. Continues (bytes_of m file) self.old → IfOk result (λ _. Continues (bytes_of m file) self.new)) }
         ensures full { IfOk result (λ _. IsFull self.new) }
         ensures place { self.new.at ≡ self.old.at }
         ensures limit { self.new.limit ≡ self.old.limit }

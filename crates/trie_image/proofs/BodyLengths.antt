@@ -17,12 +17,12 @@ use Rattle.trie_image.specs.Stores.{cost, rest_of, content_of, entry_of, first_f
 length_record : (number : ℕ) (value : List ℕ) → length (record_words number value) ≤ 4 * record_cells (length value)
 length_record number value = omega (arith, length-map-range_with_len (value_word value) 0 (4 * record_cells (length value) - 1))
 
-length_chain : (f n : ℕ) (bytes : List ℕ) (end : ℕ) → length (chain_from f n bytes end) ≡ 4 * n
+pub length_chain : (f n : ℕ) (bytes : List ℕ) (end : ℕ) → length (chain_from f n bytes end) ≡ 4 * n
 length_chain f zero bytes end = refl
 length_chain f (suc n) bytes end = let rest : List ℕ = chain_from (f + 1) n (drop (length bytes - 28 * n) bytes) end in let cell : List ℕ = chain_cell (padded (take (length bytes - 28 * n) bytes)) (next_cell f n end) in
     let four : length cell ≡ 4 = refl in omega (arith, length-append cell rest, length_chain (f + 1) n (drop (length bytes - 28 * n) bytes) end, four)
 
-length_eights : (f : ℕ → ℕ) (xs : List ℕ) → length (flat_map (λ i. eight f (8 * i)) xs) ≡ 4 * length xs
+pub length_eights : (f : ℕ → ℕ) (xs : List ℕ) → length (flat_map (λ i. eight f (8 * i)) xs) ≡ 4 * length xs
 length_eights f [] = refl
 length_eights f (x ∷ xs) = let four : length (eight f (8 * x)) ≡ 4 = refl in omega (arith, length-append (eight f (8 * x)) (flat_map (λ i. eight f (8 * i)) xs), length_eights f xs, four)
 
@@ -34,7 +34,7 @@ length_leaves : (w : List ℕ) (node b entry : ℕ) (bytes : List ℕ) (n : ℕ)
 unfolding leaf_words
 length_leaves w node b entry bytes n = omega (arith, length_eights (leaf_field w node b entry) (filter (has_leaf bytes) (range_with_len 0 n)), few_hits (λ b. b / 8) bytes 0 n)
 
-length_seven : (word b : ℕ) → length (seven word b) ≡ 7
+pub length_seven : (word b : ℕ) → length (seven word b) ≡ 7
 unfolding slot_bytes
 length_seven word b = refl
 
@@ -42,7 +42,7 @@ length_wide : (w : List ℕ) (node b entry x : ℕ) → length (wide_words w nod
 length_wide w node b entry x = let bytes : List ℕ = seven (word_of w node 3) b in let top : List ℕ = top_words bytes x in let mid : List ℕ = mid_words bytes x 4 in let leaf : List ℕ = leaf_words w node b entry bytes 32 in
     let four : length top ≡ 4 = refl in omega (arith, length-append (top ++ mid) leaf, length-append top mid, length_mids bytes x 4, length_leaves w node b entry bytes 32, length_seven (word_of w node 3) b, four)
 
-length_split : (old child new entry : ℕ) → length (split_words old child new entry) ≡ 4
+pub length_split : (old child new entry : ℕ) → length (split_words old child new entry) ≡ 4
 length_split old child new entry = cond_both (nat_le old new) (two_words old child new entry) (two_words new entry old child) (λ (l : List ℕ). length l ≡ 4) (λ e. refl) (λ e. refl)
 
 length_passed : (w : List ℕ) (s : Stand) (end : ℕ) → length (passed_words w s end) ≤ 4

@@ -10,13 +10,13 @@ use Rattle.trie_image.specs.Cell.{IsLeafCell, IsCell, IsImage}
 use Rattle.trie_image.proofs.Owners.{get_front, grown, path_grown}
 
 module _ {A : Type 0} where
-  get_either : (l m : List A) (i : ℕ) (x : A) → slice_get (l ++ m) i ≡ Some x → (slice_get l i ≡ Some x) ⊎ ((j : ℕ) × (i ≡ length l + j) × (slice_get m j ≡ Some x))
+  pub get_either : (l m : List A) (i : ℕ) (x : A) → slice_get (l ++ m) i ≡ Some x → (slice_get l i ≡ Some x) ⊎ ((j : ℕ) × (i ≡ length l + j) × (slice_get m j ≡ Some x))
   get_either [] m i x e = inr (i, omega arith, e)
   get_either (y ∷ ys) m zero x e = inl e
   get_either (y ∷ ys) m (suc i) x e = ⊎_elim (λ t. inl t) (λ (t : (j : ℕ) × (i ≡ length ys + j) × (slice_get m j ≡ Some x)). let s = t.1 in inr (t.0, omega arith, t.2)) (get_either ys m i x e)
 
 module _ (w : List ℕ) (g : Ledger) (own : List Owner) (hist : List Put) where
-  owner_grown : (c : ℕ) (o : Owner) → owner g c ≡ Some o → owner (grown g own hist) c ≡ Some o
+  pub owner_grown : (c : ℕ) (o : Owner) → owner g c ≡ Some o → owner (grown g own hist) c ≡ Some o
   owner_grown c o e = get_front g.owners own c o e
 
   leaf_grown : (c t i j : ℕ) → IsLeafCell w g c t i j → IsLeafCell w (grown g own hist) c t i j

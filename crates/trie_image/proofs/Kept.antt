@@ -28,7 +28,7 @@ module _ (w w' : List ℕ) where
   pub same_field : (c i : ℕ) → SameWords w w' c → i < 8 → field w' c i ≡ field w c i
   same_field c i h l = ap (λ (x : ℕ). half_of x (i % 2 == 1)) (h (i / 2) (omega arith))
 
-  same_byte : (c o : ℕ) → SameWords w w' c → o < 32 → cell_byte w' c o ≡ cell_byte w c o
+  pub same_byte : (c o : ℕ) → SameWords w w' c → o < 32 → cell_byte w' c o ≡ cell_byte w c o
   same_byte c o h l = ap (λ (x : ℕ). byte_of x (o % 8)) (h (o / 8) (omega arith))
 
   path_at : (g : Ledger) (q : List ℕ) (a b : ℕ) → a ≡ b → HasPath g b q → HasPath g a q
@@ -199,7 +199,7 @@ fresh w g cells i v ok where_ = let used : 0 < length g.owners = own_inside g.ow
 parity : (n : ℕ) → (n % 2 ≡ 0) ⊎ (n % 2 ≡ 1)
 parity n = ⊎_elim (λ (z : n % 2 ≡ 0). inl z) (λ (ne : n % 2 ≢ 0). inr (omega arith)) (cases_eq (n % 2) 0)
 
-half_apart : (n s : ℕ) → (s ≡ n → ⊥) → s / 2 ≡ n / 2 → (n % 2 == 1) ≡ (s % 2 == 1) → ⊥
+pub half_apart : (n s : ℕ) → (s ≡ n → ⊥) → s / 2 ≡ n / 2 → (n % 2 == 1) ≡ (s % 2 == 1) → ⊥
 half_apart n s ne same e = ⊎_elim (λ (a : n % 2 ≡ 0). ⊎_elim (λ (b : s % 2 ≡ 0). ne (omega arith)) (λ (b : s % 2 ≡ 1). let l = ap (λ (x : ℕ). x == 1) a in let r = ap (λ (x : ℕ). x == 1) b in let d : false ≡ true = sym l ∙ (e ∙ r) in absurd (cc)) (parity s))
     (λ (a : n % 2 ≡ 1). ⊎_elim (λ (b : s % 2 ≡ 0). let l = ap (λ (x : ℕ). x == 1) a in let r = ap (λ (x : ℕ). x == 1) b in let d : true ≡ false = sym l ∙ (e ∙ r) in absurd (cc)) (λ (b : s % 2 ≡ 1). ne (omega arith)) (parity s)) (parity n)
 

@@ -24,7 +24,7 @@ use Rattle.trie_image.proofs.Betters.{edge}
 
 module _ (w w' : List ℕ) (g : Ledger) (each : (c : ℕ) (o : Owner) → owner g c ≡ Some o → IsCell w g c o) (p p' : ℕ) (link : Relinks w w' g p p') where
   -- the same, or the new pointer in place of the old one
-  abbrev Turns : ℕ → ℕ → Type 0
+  abbrev pub Turns : ℕ → ℕ → Type 0
   Turns x x' = (x' ≡ x) ⊎ ((x ≡ p) × (x' ≡ p'))
 
   turns_if : (t : Bool) (x x' y y' : ℕ) → Turns x x' → Turns y y' → Turns (cond t x y) (cond t x' y')
@@ -67,7 +67,7 @@ module _ (w w' : List ℕ) (g : Ledger) (each : (c : ℕ) (o : Owner) → owner 
   node_turns a q b (Some kind.Wide) e at = wide_turns (a / 32) b q (wide_of g a q at e)
   node_turns a q b _ e at = inl refl
 
-  child_turns : (a : ℕ) (q : List ℕ) (b : ℕ) (k : Option Kind) → kind_at a ≡ k → HasPath g a q → Turns (child_of w a b k) (child_of w' a b k)
+  pub child_turns : (a : ℕ) (q : List ℕ) (b : ℕ) (k : Option Kind) → kind_at a ≡ k → HasPath g a q → Turns (child_of w a b k) (child_of w' a b k)
   child_turns a q b (Some kind.Prefix) e at = let o = prefix_of g a q at e in let n : ℕ = field w (a / 32) 1 in let same : field w' (a / 32) 1 ≡ n = same_field (a / 32) 1 (link.prefixes (a / 32) q o) (omega arith) in let ok : IsPrefixCell w g (a / 32) q = each (a / 32) (PrefixCell q) o in
       subst (λ (x : ℕ). Turns (node_child w n b (kind_at n)) (node_child w' x b (kind_at x))) (sym same) (node_turns n q b (kind_at n) refl ok.node)
   child_turns a q b (Some kind.Chain) e at = node_turns a q b (Some kind.Chain) e at
@@ -75,7 +75,7 @@ module _ (w w' : List ℕ) (g : Ledger) (each : (c : ℕ) (o : Owner) → owner 
   child_turns a q b (Some kind.Wide) e at = node_turns a q b (Some kind.Wide) e at
   child_turns a q b _ e at = inl refl
 
-  record_stays : (a : ℕ) (q : List ℕ) (k : Option Kind) → kind_at a ≡ k → HasPath g a q → record_of w' a k ≡ record_of w a k
+  pub record_stays : (a : ℕ) (q : List ℕ) (k : Option Kind) → kind_at a ≡ k → HasPath g a q → record_of w' a k ≡ record_of w a k
   record_stays a q (Some kind.Prefix) e at = ap (λ (x : ℕ). content_record x (kind_at x)) (same_field (a / 32) 0 (link.prefixes (a / 32) q (prefix_of g a q at e)) (omega arith))
   record_stays a q _ e at = refl
 

@@ -13,11 +13,11 @@ use Rattle.trie_image.specs.Stores.{store_at, prepares, rest_of, body_words, pub
 use Rattle.trie_image.specs.Laws.{ArePrepares, HasShape}
 use Rattle.trie_image.proofs.Kept.{fresh}
 
-prepares_are : (at : ℕ) (ws : List ℕ) → ArePrepares (prepares at ws)
+pub prepares_are : (at : ℕ) (ws : List ℕ) → ArePrepares (prepares at ws)
 prepares_are at [] = tt
 prepares_are at (x ∷ xs) = (refl, prepares_are (at + 1) xs)
 
-joined : (a b : List WordStore) → ArePrepares a → ArePrepares b → ArePrepares (a ++ b)
+pub joined : (a b : List WordStore) → ArePrepares a → ArePrepares b → ArePrepares (a ++ b)
 joined [] b h k = k
 joined (x ∷ xs) b h k = (h.0, joined xs b h.1 k)
 

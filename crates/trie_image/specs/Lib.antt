@@ -10,4 +10,7 @@ pub mod Relink
 pub mod Exit
 pub mod Body
 pub mod Stores
+pub mod After
 pub mod Laws
+pub mod Publish
+pub mod Held

@@ -8,12 +8,14 @@
 
 ghost use Rattle.trie_image.specs.Laws.{LawPaths, LawClosed, LawFalls, LawOpening, LawStart, LawAdvance, LawInside, LawCost, LawShape, LawPrepared, LawSame, LawFresh, LawFreeSlot};
 ghost use Rattle.trie_image.specs.Relink.{LawRelink};
+ghost use Rattle.trie_image.specs.Publish.{LawPublish};
 
 use key_types::ListOf;
 use std::collections::LinkedList;
 
 mod body;
 pub mod exit;
+pub mod owned;
 pub mod plan;
 pub mod walk;
 
@@ -194,6 +196,14 @@ pub fn law_free_slot()
 /// saw, or its path and the rest of the key are this key and it sees the new record.
 pub fn law_relink()
     ensures { LawRelink }
+{}
+
+/// The stores of a put, in an image that is well formed and has room for its cost: each one before the publishing one changes
+/// nothing that a pointer with a path or a place reads; the publishing one leaves a well-formed image with the put added to
+/// the puts, in which every pointer with a path and every place of a walk sees what it saw, or the new record for the put's
+/// key; the last one counts the put in word 0.
+pub fn law_publish()
+    ensures { LawPublish }
 {}
 
 #[cfg(test)]

@@ -67,7 +67,10 @@ fn a_put_is_loaded_and_scanned(rt: HostRuntime) -> Result<(), TestFail> {
     let mut store = empty(alloc);
     let (number, text) = said(&rt, alloc, &LOAD, b"put (1) () = 'a'", &mut store)?;
     assert_eq!(rt; number, 0);
-    assert_eq!(rt; text.as_slice(), b"ok puts 1 rows 1 partitions 1\n".as_slice());
+    assert_eq!(rt;
+        text.as_slice(),
+        b"ok puts 1 rows 1 partitions 1\n".as_slice()
+    );
     assert_eq!(rt; store.contents(DATA), Some(ONE_PUT));
     assert_eq!(rt; store.contents(SCHEMA), Some(SCHEMA_TEXT));
     let (number, text) = said(&rt, alloc, &SCAN, b"", &mut store)?;
@@ -81,7 +84,10 @@ fn an_empty_script_is_loaded(rt: HostRuntime) -> Result<(), TestFail> {
     let alloc = rt.alloc();
     let mut store = empty(alloc);
     let (_, text) = said(&rt, alloc, &LOAD, b"", &mut store)?;
-    assert_eq!(rt; text.as_slice(), b"ok puts 0 rows 0 partitions 0\n".as_slice());
+    assert_eq!(rt;
+        text.as_slice(),
+        b"ok puts 0 rows 0 partitions 0\n".as_slice()
+    );
     assert_eq!(rt; store.contents(DATA), Some(b"".as_slice()));
     assert_eq!(rt; store.contents(SCHEMA), Some(SCHEMA_TEXT));
     let (_, text) = said(&rt, alloc, &SCAN, b"", &mut store)?;
@@ -95,9 +101,15 @@ fn the_last_value_of_a_key_is_loaded(rt: HostRuntime) -> Result<(), TestFail> {
     let mut store = empty(alloc);
     let script = b"put (2) () = 'b'\nput (-1) () = 'it''s'\nput (2) () = 'c'\n";
     let (_, text) = said(&rt, alloc, &LOAD, script, &mut store)?;
-    assert_eq!(rt; text.as_slice(), b"ok puts 3 rows 2 partitions 2\n".as_slice());
+    assert_eq!(rt;
+        text.as_slice(),
+        b"ok puts 3 rows 2 partitions 2\n".as_slice()
+    );
     let (_, text) = said(&rt, alloc, &SCAN, b"", &mut store)?;
-    assert_eq!(rt; text.as_slice(), b"(-1) () = 'it''s'\n(2) () = 'c'\nrows 2\n".as_slice());
+    assert_eq!(rt;
+        text.as_slice(),
+        b"(-1) () = 'it''s'\n(2) () = 'c'\nrows 2\n".as_slice()
+    );
     Ok(())
 }
 
@@ -140,7 +152,10 @@ fn a_refused_script_leaves_no_file(rt: HostRuntime) -> Result<(), TestFail> {
     let mut store = empty(alloc);
     let (number, text) = said(&rt, alloc, &LOAD, b"put (1) () = 'a'\nput", &mut store)?;
     assert_eq!(rt; number, 2);
-    assert_eq!(rt; text.as_slice(), b"error: line 2: bad text at 3\n".as_slice());
+    assert_eq!(rt;
+        text.as_slice(),
+        b"error: line 2: bad text at 3\n".as_slice()
+    );
     assert_eq!(rt; store.contents(DATA), None);
     assert_eq!(rt; store.contents(SCHEMA), None);
     Ok(())
@@ -163,12 +178,7 @@ fn a_failed_pull_leaves_no_file(rt: HostRuntime) -> Result<(), TestFail> {
 #[test]
 fn a_failed_call_of_the_store_is_told(rt: HostRuntime) -> Result<(), TestFail> {
     let alloc = rt.alloc();
-    for (call, data) in [
-        (1, None),
-        (4, None),
-        (5, None),
-        (6, Some(ONE_PUT)),
-    ] {
+    for (call, data) in [(1, None), (4, None), (5, None), (6, Some(ONE_PUT))] {
         let mut store = MemStore::new(alloc, vec![in alloc; Fail { call, keep: 0 }]?);
         let (number, text) = said(&rt, alloc, &LOAD, b"put (1) () = 'a'", &mut store)?;
         assert_eq!(rt; number, 6, "{call}");
@@ -183,7 +193,10 @@ fn a_failed_call_of_the_store_is_told(rt: HostRuntime) -> Result<(), TestFail> {
 fn a_file_that_is_cut_off_is_damaged(rt: HostRuntime) -> Result<(), TestFail> {
     let alloc = rt.alloc();
     for (length, text) in [
-        (15, b"(1) () = 'a'\nerror: damaged Data at 15: bad row\n".as_slice()),
+        (
+            15,
+            b"(1) () = 'a'\nerror: damaged Data at 15: bad row\n".as_slice(),
+        ),
         (14, b"error: damaged Data at 8: bad row\n"),
         (9, b"error: damaged Data at 8: bad row\n"),
         (8, b"error: damaged Data at 8: bad row\n"),
@@ -233,7 +246,11 @@ fn a_table_without_a_whole_schema_is_unfinished(rt: HostRuntime) -> Result<(), T
     let (number, text) = said(&rt, alloc, &SCAN, b"", &mut store)?;
     assert_eq!(rt; number, 8);
     assert_eq!(rt; text.as_slice(), b"error: unfinished\n".as_slice());
-    for schema in [&SCHEMA_TEXT[..29], b"bti-table 1\n(int; ; text)\nend\n\n", b""] {
+    for schema in [
+        &SCHEMA_TEXT[..29],
+        b"bti-table 1\n(int; ; text)\nend\n\n",
+        b"",
+    ] {
         let mut store = store_of(alloc, ONE_PUT, schema)?;
         let (number, text) = said(&rt, alloc, &SCAN, b"", &mut store)?;
         assert_eq!(rt; number, 8);
@@ -258,7 +275,10 @@ fn long_files_are_scanned_page_by_page(rt: HostRuntime) -> Result<(), TestFail> 
     let mut store = empty(alloc);
     let script = long_script(alloc, 400)?;
     let (_, text) = said(&rt, alloc, &LOAD, script.as_slice(), &mut store)?;
-    assert_eq!(rt; text.as_slice(), b"ok puts 400 rows 400 partitions 400\n".as_slice());
+    assert_eq!(rt;
+        text.as_slice(),
+        b"ok puts 400 rows 400 partitions 400\n".as_slice()
+    );
     let (number, text) = said(&rt, alloc, &SCAN, b"", &mut store)?;
     assert_eq!(rt; number, 0);
     assert!(rt; text.as_slice().starts_with(b"(0) () = 'x"));

@@ -1,48 +1,23 @@
 //! Worked rows of puts: how many cells each takes, and that every key is found after every put.
 
-ghost use Rattle.std.specs.Prelude.{◌<◌, ◌^◌, length};
-
-use super::{bytes_left, plan, plan_put};
-use crate::exit::{Meets, exit_of, word_at};
+use super::plan_put;
+use crate::owned::Image;
 use crate::{StoreKind, WordStore};
-use cell_layout::head_parts;
 use key_types::NoMemory;
 use std::alloc::Global;
 use std::process::Abort;
 use std::test::Fail;
 
-/// Makes the stores of a put in the words, and answers the number of cells taken after it.
-fn put(
-    alloc: Global,
-    words: &mut [u64],
-    used: u32,
-    key: &[u8],
-    value: &[u8],
-) -> Result<u32, NoMemory> {
-    if word_at(words, 0, 0) >= 1000 || used >= 1000 || key.len() >= 1000 || value.len() >= 1000 {
-        return Ok(0);
-    }
-    let exit = exit_of(words, key);
-    let byte = key.get(exit.taken as usize).copied().unwrap_or(0);
-    let stores = plan(alloc, words, used, value, bytes_left(key, exit), exit, byte)?;
-    let mut taken = used;
-    for store in stores.as_slice() {
-        if (store.word as usize) < words.len() {
-            words[store.word as usize] = store.value;
-        }
-        taken = taken.max(store.word / 4 + 1);
-    }
-    Ok(taken)
-}
-
-/// The number of the key's last put and the length of its value.
-fn last_put(words: &[u64], key: &[u8]) -> Option<(u32, u32)>
-    requires { length key.now < 2 ^ 32 }
-{
-    let exit = exit_of(words, key);
-    match exit.meets {
-        Meets::Content => Some(head_parts(word_at(words, 0xffff_ffff - exit.stand.at, 0))),
-        _ => None,
+/// Each key finds its last put among the first so many puts, and none where they don't have it.
+fn check_lookups(rt: &impl Abort, image: &Image, keys: &[&[u8]], puts: usize) {
+    let done = keys.split_at(puts.min(keys.len())).0;
+    for key in keys {
+        assert!(rt; key.len() < 1000);
+        let number = done
+            .iter()
+            .rposition(|other| *other == *key)
+            .map(|place| place.saturating_add(1));
+        assert_eq!(rt; image.lookup(key).map(|rec| rec.number as usize), number);
     }
 }
 
@@ -52,27 +27,15 @@ fn check_puts(
     alloc: Global,
     keys: &[&[u8]],
     cells: &[u32],
-) -> Result<(), NoMemory> {
-    let mut words = [0; 256];
-    let mut used = 1;
+) -> Result<Image, NoMemory> {
+    let mut image = Image::new(alloc, 64)?;
     for (n, (key, taken)) in keys.iter().zip(cells).enumerate() {
-        used = put(alloc, &mut words, used, key, &[7])?;
-        assert_eq!(rt; used, *taken);
-        let done = keys.split_at((n + 1).min(keys.len())).0;
-        for earlier in done {
-            if earlier.len() < 1000 {
-                let number = done
-                    .iter()
-                    .rposition(|other| *other == *earlier)
-                    .map(|m| m.saturating_add(1));
-                assert_eq!(rt;
-                    last_put(&words, earlier).map(|found| found.0 as usize),
-                    number
-                );
-            }
-        }
+        assert!(rt; image.takes(key, &[7]));
+        image.put(alloc, key, &[7])?;
+        assert_eq!(rt; image.used(), *taken);
+        check_lookups(rt, &image, keys, n.saturating_add(1));
     }
-    Ok(())
+    Ok(image)
 }
 
 #[test]
@@ -87,7 +50,8 @@ fn seven_keys_and_an_eighth(rt: HostRuntime) -> Result<(), Fail> {
         b"\x40\x86\x38\x38",
         b"\x40\x00\x38\x38",
     ];
-    check_puts(&rt, rt.alloc(), &keys, &[3, 7, 9, 11, 13, 15, 20, 24])?;
+    let image = check_puts(&rt, rt.alloc(), &keys, &[3, 7, 9, 11, 13, 15, 20, 24])?;
+    assert_eq!(rt; image.lookup(b"\x40\x87\x38\x38"), None);
     Ok(())
 }
 
@@ -113,7 +77,19 @@ fn keys_that_begin_others(rt: HostRuntime) -> Result<(), Fail> {
     let longer: [&[u8]; 3] = [b"a", b"ab", b"abcd"];
     check_puts(&rt, rt.alloc(), &longer, &[3, 6, 9])?;
     let shorter: [&[u8]; 4] = [b"abc", b"ab", b"a", b"a"];
-    check_puts(&rt, rt.alloc(), &shorter, &[3, 6, 9, 10])?;
+    let image = check_puts(&rt, rt.alloc(), &shorter, &[3, 6, 9, 10])?;
+    assert_eq!(rt; image.lookup(b"abcd"), None);
+    assert_eq!(rt; image.lookup(b"b"), None);
+    Ok(())
+}
+
+#[test]
+fn a_full_image_takes_no_put(rt: HostRuntime) -> Result<(), Fail> {
+    let mut image = Image::new(rt.alloc(), 20)?;
+    assert!(rt; image.takes(b"a", b""));
+    image.put(rt.alloc(), b"a", b"")?;
+    assert_eq!(rt; image.used(), 3);
+    assert!(rt; !image.takes(b"a", b""));
     Ok(())
 }
 

@@ -1,4 +1,4 @@
-use Rattle.std.proofs.Common.{arith, rules}
+use Rattle.std.proofs.Common.{arith}
 use Rattle.table_tool.proofs.EndLemmas.{whole_told}
 use Rattle.table_tool.proofs.scan.is_whole.Goals as goal
 

@@ -1,4 +1,4 @@
-use Rattle.std.proofs.Common.{◌≡◌, ◌∙◌, ◌≤◌, ◌+◌, None, Some, refl, Ok, Err, inl, ap, arith, rules}
+use Rattle.std.proofs.Common.{refl, Ok, Err, inl, ap}
 use Rattle.table_tool.proofs.EndLemmas.{end_damaged, end_memory, end_pushed, end_stopped, end_whole, nothing_shown, nothing_written, refused, told_first}
 use Rattle.table_tool.specs.Scanning.{part}
 use Rattle.table_tool.specs.declared.status.Status.TheVariants as status

@@ -1,4 +1,4 @@
-use Rattle.std.proofs.Common.{◌≡◌, ◌∙◌, ◌≤◌, ◌+◌, Option, subst, sym, ap, arith, rules}
+use Rattle.std.proofs.Common.{Option, subst}
 use Rattle.outside.specs.Files.{Files}
 use Rattle.table_tool.specs.Scanned.{Prints}
 use Rattle.table_tool.proofs.EndLemmas.{earlier, fault_ends, not_found, scan_ends, unfinished_ends, whole_schema}

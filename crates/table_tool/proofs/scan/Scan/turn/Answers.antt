@@ -1,4 +1,4 @@
-use Rattle.std.proofs.Common.{◌≡◌, refl, ap, subst, rules}
+use Rattle.std.proofs.Common.{refl, subst}
 use Rattle.table_tool.specs.declared.walk.Met.{Met}
 use Rattle.table_tool.specs.Steps.{StepIs}
 use Rattle.table_tool.proofs.ScanLemmas.{row_turn}

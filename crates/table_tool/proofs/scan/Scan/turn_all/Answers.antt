@@ -1,4 +1,4 @@
-use Rattle.std.proofs.Common.{◌≡◌, ◌∙◌, ◌≤◌, ◌++◌, List, ℕ, arith, subst}
+use Rattle.std.proofs.Common.{◌∙◌, ◌++◌, arith, subst}
 use Rattle.table_tool.specs.Scanned.{TurnIs}
 use Rattle.table_tool.specs.declared.scan.Turn.{Turn}
 use Rattle.table_tool.specs.declared.scan.Turn.TheVariants.{On}
@@ -29,8 +29,12 @@ turns-preserved g c =
     let pushing = c.in-Ok.ensures.later in
     record {
       bounded = bounded_same c.turn.new.self c.push_block.new.self c.in-Ok.ensures.walk c.in-Ok.ensures.rows (c.in-Ok-On.ensures.bounded c.in-Ok-On.field-0-is);
-      held = (held.0 ++ push.0, more.0, holding_pushed _ c.turn.new.self c.push_block.new.self held.0 push.0 more.0 c.in-Ok.ensures.walk c.in-Ok.ensures.rows push.1 more.1,
-        pushed_on _ _ _ held.0 push.0 held.3 push.2);
+      held = (
+        held.0 ++ push.0,
+        more.0,
+        holding_pushed _ c.turn.new.self c.push_block.new.self held.0 push.0 more.0 c.in-Ok.ensures.walk c.in-Ok.ensures.rows push.1 more.1,
+        pushed_on _ _ _ held.0 push.0 held.3 push.2,
+      );
       same = c.in-Ok-On.ensures.files ∙ c.turns.invariant.same;
       store_later = omega arith;
       later = omega arith;

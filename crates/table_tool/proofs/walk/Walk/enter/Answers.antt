@@ -1,4 +1,4 @@
-use Rattle.std.proofs.Common.{◌≡◌, ◌∙◌, ◌++◌, [], refl, ap, sym, subst, List, ℕ, arith, length, eqb-true, rules}
+use Rattle.std.proofs.Common.{◌∙◌, ◌++◌, [], refl, ap, sym, subst, List, ℕ, arith, length, eqb-true, rules}
 use Rattle.std.proofs.lemmas.Bool.{eqb-false}
 use Rattle.std.proofs.lemmas.List.{nil_from_length}
 use Rattle.bti_nodes.specs.declared.damage.Cause.TheVariants.{BadHead}
@@ -18,6 +18,8 @@ returns-in_default-clause-step c =
     (subst (λ (b : List ℕ). NoHead (types_of c.args.schema.now) b) c.unread-bytes.ensures.bytes (c.head_in.ensures.none (search rules))) (c.damaged.ensures ∙ ap (λ at. Damaged (damage_at at BadHead)) c.at.ensures)
 
 pub returns-clause-step : goal.returns-clause-step
-returns-clause-step c =
-    (refl, moves_head _ c.args.self.now.window c.pass.new.self _ _ c.in-Some.key.now c.extend.new.self (room_there c.args.self.now.window _ c.unread-bytes.ensures.bytes c.unread-bytes.ensures.inside) c.requires.types (is_outside c.args.self.now c.requires.outside)
-      c.pass.ensures (omega arith) (search rules) (c.in_ok-extend.ensures.ok ∙ ap (λ b. b ++ c.in-Some.key.now) c.truncate.ensures))
+returns-clause-step c = (
+  refl,
+  moves_head _ c.args.self.now.window c.pass.new.self _ _ c.in-Some.key.now c.extend.new.self (room_there c.args.self.now.window _ c.unread-bytes.ensures.bytes c.unread-bytes.ensures.inside) c.requires.types (is_outside c.args.self.now c.requires.outside)
+      c.pass.ensures (omega arith) (search rules) (c.in_ok-extend.ensures.ok ∙ ap (λ b. b ++ c.in-Some.key.now) c.truncate.ensures),
+)
