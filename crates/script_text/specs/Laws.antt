@@ -52,6 +52,7 @@ IsStaticPut s put = (t : ValueType) × (s.fixed ≡ Some t) × (put.clustering �
 abbrev pub IsPut : Columns → Put → Type 0
 IsPut s put = IsKey s.partition put.partition × (IsRowPut s put ⊎ IsStaticPut s put)
 
+-- all are puts under a schema
 abbrev pub ArePuts : Columns → List Put → Type 0
 ArePuts s [] = Unit {0}
 ArePuts s (put ∷ puts) = IsPut s put × ArePuts s puts

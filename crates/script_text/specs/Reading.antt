@@ -30,9 +30,11 @@ RestText = Option Vals × Val
 abbrev pub set_at : ValueType → Option ℕ → Read (Marked Val)
 set_at t = paired (λ _ v. v) (unmarked (sign_at 61)) (marked_at (value_kind t))
 
+-- the components of a row, and what it is set to
 abbrev pub row_at : Columns → Option ℕ → Read (Marked RestText)
 row_at s = paired (λ cs v. (Some cs, v)) (marked_list s.clustering) (set_at s.value)
 
+-- the word `static`, and what the static value is set to
 abbrev pub static_at : ValueType → Option ℕ → Read (Marked RestText)
 static_at t = paired (λ _ v. (None, v)) (unmarked (token true (codes "static"))) (set_at t)
 
@@ -45,6 +47,7 @@ abbrev pub rest_by : Columns → Option ValueType → Option ℕ → Read (Marke
 rest_by s None mark = row_at s mark
 rest_by s (Some t) mark = by_first is_open (row_at s mark) (static_at t mark)
 
+-- the components of a partition before what stands behind them
 abbrev pub keyed : Vals → RestText → PutText
 keyed vs rest = record { partition = vs; clustering = rest.0; value = rest.1 }
 
@@ -52,6 +55,7 @@ keyed vs rest = record { partition = vs; clustering = rest.0; value = rest.1 }
 abbrev pub key_at : Columns → Option ℕ → Read (Marked PutText)
 key_at s = paired keyed (marked_list s.partition) (rest_by s s.fixed)
 
+-- a put, without spaces before
 abbrev pub put_at : Columns → Option ℕ → Read (Marked PutText)
 put_at s = paired (λ _ p. p) (unmarked (token true (codes "put"))) (key_at s)
 

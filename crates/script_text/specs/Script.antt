@@ -18,6 +18,7 @@ use Rattle.script_text.specs.Lines.{lines_of}
 
 -- ---- a line's put
 
+-- one step after another, unless the first fails
 infixl 10 ◌>>=◌
 abbrev pub ◌>>=◌ : {A B E : Type 0} → Result A E → (A → Result B E) → Result B E
 (Ok x) >>= f = f x
@@ -99,6 +100,7 @@ puts_of (batch ∷ batches) = batch.puts ++ puts_of batches
 abbrev pub entry_of : Put → Entry
 entry_of put = (put.partition ++ put.clustering, put.value)
 
+-- those of several puts
 abbrev pub entries_of : List Put → List Entry
 entries_of puts = map entry_of puts
 

@@ -9,6 +9,7 @@ use Rattle.schema_text.specs.Columns.{Columns}
 abbrev pub first_columns : Columns
 first_columns = record { partition = more int end; clustering = end; value = Text; fixed = None }
 
+-- the number is one of int
 abbrev pub IsInt : ℤ → Type 0
 IsInt n = IsTrue (fits_by int (number n))
 
