@@ -5,5 +5,6 @@ pub mod Strings
 pub mod Paired
 pub mod PutLines
 pub mod Told
+pub mod Passed
 pub mod Accepted
 pub mod Steps

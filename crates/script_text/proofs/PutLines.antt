@@ -239,7 +239,7 @@ module _ (s : Columns) where
   whole_from : (p : PutText) (bs : List ℕ) → IsPut s p bs → Both (λ _ q. q) (IsToken (codes "put")) KeyIs p bs
   whole_from p bs (word, list, rest, (spaced, w), l, is, e) = (spaced, word, list ++ rest, w, (p, (list, rest, l, is, refl), refl), e)
 
-  put_exact : Exact plain_put (IsPut s) Closing
+  pub put_exact : Exact plain_put (IsPut s) Closing
   put_exact = exact_as plain_put (Both (λ _ q. q) (IsToken (codes "put")) KeyIs) (IsPut s) Closing
       (both_exact (λ _ q. q) (token true (codes "put")) plain_key (IsToken (codes "put")) KeyIs (AfterGap true) (λ b. no_end b ≡ false) (token_exact true (codes "put") (are_bytes (codes "put") refl)) key_exact key_text
       (λ spaced p bs rest is. heads_begin (AfterGap true spaced) KeyIs (key_heads (AfterGap true spaced) (after_word spaced 40 refl (refl, refl))) p bs rest is)) whole_to whole_from

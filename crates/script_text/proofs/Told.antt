@@ -84,7 +84,7 @@ comment_found (a ∷ b ∷ bs) h = by (a == 45) (b == 45) refl refl h
     by true false e f k = cc
     by false u e f k = cc
 
-comment_is : (line : List ℕ) → IsComment line → is_comment line ≡ true
+pub comment_is : (line : List ℕ) → IsComment line → is_comment line ≡ true
 comment_is line (rest, e) = ap is_comment e
 
 blank_found : (line : List ℕ) → is_blank line ≡ true → IsBlank line
@@ -99,7 +99,7 @@ spaces_blank : (n : ℕ) → is_blank (replicate n 32) ≡ true
 spaces_blank zero = refl
 spaces_blank (suc n) = spaces_blank n
 
-blank_is : (line : List ℕ) → IsBlank line → is_blank line ≡ true
+pub blank_is : (line : List ℕ) → IsBlank line → is_blank line ≡ true
 blank_is line (n, e) = ap is_blank e ∙ spaces_blank n
 
 never : (t : Bool) → t ≡ false → t ≡ true → ⊥

@@ -25,9 +25,12 @@ LineReads s line (Err (cause.BadText at)) = ((said : Option PutText) → IsLine 
 LineReads s line (Err (cause.OutOfRange at)) = LinePasses s line at
 LineReads s line (Err _) = ⊥
 
--- every line of UTF-8 is read exactly, under every schema
-abbrev pub ReadsLines : Type 0
-ReadsLines = (s : Columns) (line : List ℕ) → is_utf8 line ≡ true → LineReads s line (line_of s line)
+-- lines are read exactly, under every schema
+pub record ReadsLines : Type 0 where
+  -- what is told of a line of UTF-8 is so
+  pub only : (s : Columns) (line : List ℕ) → is_utf8 line ≡ true → LineReads s line (line_of s line)
+  -- a line of the grammar that fits is read
+  pub all : (s : Columns) (said : Option PutText) (line : List ℕ) → IsLine s said line → LineFits s said → line_of s line ≡ Ok said
 
 -- ---- puts
 
