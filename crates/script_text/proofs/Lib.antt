@@ -1,7 +1,10 @@
 pub mod Breaks
-pub mod Capped
 pub mod Listed
-pub mod Quoted
-pub mod Spelled
-pub mod Found
+pub mod Octets
+pub mod Strings
+pub mod Paired
+pub mod PutLines
+pub mod Told
+pub mod Passed
 pub mod Accepted
+pub mod Steps

@@ -1,6 +1,7 @@
 pub mod Lines
-pub mod Tokens
-pub mod PutLine
 pub mod Grammar
+pub mod Passing
+pub mod Reading
+pub mod Parts
 pub mod Script
-pub mod Accepted
+pub mod Laws

@@ -1,82 +1,106 @@
 -- What a script spells: its puts, or the first line that isn't accepted. This project's own.
-use Rattle.std.specs.Prelude.{◌≡◌, ℕ, ◌+◌, ◌||◌, List, [], ◌∷◌, ◌++◌, length, map, ℤ, Option, Some, None, Result, Ok, Err, if◌then◌else◌, nat_le, nat_lt}
+use Rattle.std.specs.Prelude.{◌≡◌, ℕ, ◌+◌, ◌||◌, List, [], ◌∷◌, ◌++◌, length, map, Option, Some, None, Result, Ok, Err, if◌then◌else◌, nat_lt}
 use Rattle.std.specs.Str.{is_utf8}
-use Rattle.key_types.specs.Kinds.{Kinds, more, end, int, and, none, number}
+use Rattle.key_types.specs.Kinds.{Kinds, Val, bytes, Vals}
 use Rattle.key_types.specs.Table.{Entry}
 use Rattle.byte_comparable.specs.Encoding.{key_string}
+use Rattle.schema_text.specs.Columns.{Columns}
 use Rattle.script_text.specs.declared.script.Put.{Put}
 use Rattle.script_text.specs.declared.script.Batch.{Batch}
 use Rattle.script_text.specs.declared.script.Script.{Script}
 use Rattle.script_text.specs.declared.script.LineCause.{LineCause}
-use Rattle.script_text.specs.declared.script.LineCause.TheVariants.{BadText}
+use Rattle.script_text.specs.declared.script.LineCause.TheVariants.{NotUtf8, KeyTooLong, ValueTooLong}
 use Rattle.script_text.specs.declared.script.ScriptError.{ScriptError}
 use Rattle.script_text.specs.declared.script.ScriptError.TheVariants.{BadLine, TooLarge, NoMemory}
-use Rattle.script_text.specs.PutLine.{put_at}
+use Rattle.script_text.specs.Grammar.{PutText}
+use Rattle.script_text.specs.Reading.{line_of}
 use Rattle.script_text.specs.Lines.{lines_of}
 
--- the partitions have one component of type int, and no row has a clustering component: `(int; ; text)`
-abbrev pub IsOneInt : Kinds → Kinds → Type 0
-IsOneInt partition clustering = (partition ≡ more int end) × (clustering ≡ end)
+-- ---- a line's put
 
--- the string of a partition of that schema
-abbrev pub int_partition : ℤ → List ℕ
-int_partition n = key_string (more int end) (and (number n) none)
+-- one step after another, unless the first fails
+infixl 10 ◌>>=◌
+abbrev pub ◌>>=◌ : {A B E : Type 0} → Result A E → (A → Result B E) → Result B E
+(Ok x) >>= f = f x
+(Err e) >>= f = Err e
 
--- the string of the one row in it
-abbrev pub no_clustering : List ℕ
-no_clustering = key_string end none
+-- the string of key values, of at most 1,024 bytes
+abbrev pub key_of : Kinds → Vals → Result (List ℕ) LineCause
+key_of ts vs = if nat_lt 1024 (length (key_string ts vs)) then Err (KeyTooLong (length (key_string ts vs))) else Ok (key_string ts vs)
 
--- Until the grammar has other lines and types, each line that isn't accepted has this cause.
-abbrev pub refusal : {X : Type 0} → Result X LineCause
-refusal = Err (BadText 0)
+-- that of a row within its partition; a static value has the empty one
+abbrev pub row_key : Kinds → Option Vals → Result (List ℕ) LineCause
+row_key ts (Some vs) = key_of ts vs
+row_key ts None = Ok []
 
--- what was read of a line, where its number is one of int and its value has at most 65,535 bytes
-abbrev pub accepted : ℕ → Result (Option ℤ × List ℕ) ℕ → Result Put LineCause
-accepted line (Ok (Some n, value)) =
-    if nat_le (length value) 65535 then Ok (record { line = line; partition = int_partition n; clustering = no_clustering; value = value }) else refusal
-accepted line (Ok (None, value)) = refusal
-accepted line (Err left) = refusal
+-- the bytes of a text or blob
+abbrev pub bytes_in : Val → List ℕ
+bytes_in (bytes b) = b
+bytes_in _ = []
 
--- the put that a line spells
-unfoldable pub put_on : ℕ → List ℕ → Result Put LineCause
-put_on line text = if is_utf8 text then accepted line (put_at text) else refusal
+-- a value of at most 65,535 bytes
+abbrev pub short_value : List ℕ → Result (List ℕ) LineCause
+short_value v = if nat_lt 65535 (length v) then Err (ValueTooLong (length v)) else Ok v
+
+-- the put with its strings, or the first of them that is too long
+abbrev pub put_of : Columns → ℕ → PutText → Result Put LineCause
+put_of s line p = do
+  partition ← key_of s.partition p.partition
+  clustering ← row_key s.clustering p.clustering
+  value ← short_value (bytes_in p.value)
+  Ok (record { line = line; partition = partition; clustering = clustering; value = value })
+
+-- where there is a put
+abbrev pub some_put : Columns → ℕ → Option PutText → Result (Option Put) LineCause
+some_put s line None = Ok None
+some_put s line (Some p) = put_of s line p >>= λ put. Ok (Some put)
+
+-- the put of a line with this number, where it has one
+abbrev pub put_on : Columns → ℕ → List ℕ → Result (Option Put) LineCause
+put_on s line text = if is_utf8 text then (line_of s text >>= λ said. some_put s line said) else Err NotUtf8
+
+-- ---- all lines
 
 -- what came of a line with this number
-abbrev pub at_line : ℕ → Result Put LineCause → Result Put ScriptError
-at_line line (Ok put) = Ok put
+abbrev pub at_line : {X : Type 0} → ℕ → Result X LineCause → Result X ScriptError
+at_line line (Ok x) = Ok x
 at_line line (Err cause) = Err (BadLine line cause)
 
--- a line's put in front of those behind it; of two refusals the first counts
-abbrev pub with_rest : Result Put ScriptError → Result (List Put) ScriptError → Result (List Put) ScriptError
-with_rest (Ok put) (Ok puts) = Ok (put ∷ puts)
-with_rest (Ok put) (Err e) = Err e
-with_rest (Err e) rest = Err e
+-- a line's put, where it has one, in front of those behind it
+abbrev pub in_front : Option Put → List Put → List Put
+in_front None puts = puts
+in_front (Some put) puts = put ∷ puts
+
+-- of two refusals the first counts
+abbrev pub with_rest : Result (Option Put) ScriptError → Result (List Put) ScriptError → Result (List Put) ScriptError
+with_rest first rest = first >>= λ put. rest >>= λ puts. Ok (in_front put puts)
 
 -- the puts of the lines, the first of which has this number, or the first line that isn't accepted
-abbrev pub puts_from : ℕ → List (List ℕ) → Result (List Put) ScriptError
-puts_from line [] = Ok []
-puts_from line (text ∷ texts) = with_rest (at_line line (put_on line text)) (puts_from (line + 1) texts)
+abbrev pub puts_from : Columns → ℕ → List (List ℕ) → Result (List Put) ScriptError
+puts_from s line [] = Ok []
+puts_from s line (text ∷ texts) = with_rest (at_line line (put_on s line text)) (puts_from s (line + 1) texts)
 
 -- a script of puts alone is one batch
 abbrev pub one_batch : Result (List Put) ScriptError → Result Script ScriptError
 one_batch (Ok puts) = Ok (record { batches = record { puts = puts; gets = [] } ∷ []; puts = length puts })
 one_batch (Err e) = Err e
 
--- what the bytes spell: too large with over 67,108,864 bytes or 1,000,000 lines, which is asked first
-abbrev pub script_of : List ℕ → Result Script ScriptError
-script_of bytes =
-    if nat_lt 67108864 (length bytes) || nat_lt 1000000 (length (lines_of bytes)) then Err TooLarge
-    else one_batch (puts_from 1 (lines_of bytes))
+-- what the bytes spell under a schema of these columns: too large with over 67,108,864 bytes or 1,000,000 lines, which is asked first
+abbrev pub script_of : Columns → List ℕ → Result Script ScriptError
+script_of s bs =
+    if nat_lt 67108864 (length bs) || nat_lt 1000000 (length (lines_of bs)) then Err TooLarge
+    else one_batch (puts_from s 1 (lines_of bs))
 
 -- all puts of a script in the order of their lines
 abbrev pub puts_of : List Batch → List Put
 puts_of [] = []
 puts_of (batch ∷ batches) = batch.puts ++ puts_of batches
 
--- the string of a put's row, and its value
+-- the key string of a put, which for a static value is that of its partition, and its value
 abbrev pub entry_of : Put → Entry
 entry_of put = (put.partition ++ put.clustering, put.value)
 
+-- those of several puts
 abbrev pub entries_of : List Put → List Entry
 entries_of puts = map entry_of puts
 

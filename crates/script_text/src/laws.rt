@@ -1,13 +1,13 @@
 //! Laws over the definitions of scripts.
-ghost use Rattle.script_text.specs.Accepted.{SpelledAreAccepted};
-ghost use Rattle.script_text.specs.Grammar.{ReadsPutLines};
+ghost use Rattle.script_text.specs.Laws.{ReadsLines, SpelledAreAccepted};
 
-/// A line is read as the put of a number and a value exactly where the grammar has it.
+/// A line is read as what it says exactly where the grammar has it and its numbers are of their types, and else
+/// the first cause is told with its exact place.
 pub fn law_put_lines()
-    ensures { ReadsPutLines }
+    ensures { ReadsLines }
 {}
 
-/// The puts of a script are rows of the schema, their values are texts, and there are at most 1,000,000.
+/// The puts of a script are of its schema, and there are at most 1,000,000.
 pub fn law_accepted_puts()
     ensures { SpelledAreAccepted }
 {}

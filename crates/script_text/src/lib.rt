@@ -3,9 +3,11 @@
 
 mod laws;
 mod lines;
+mod puts;
 mod reader;
 mod script;
-mod tokens;
+#[cfg(test)]
+mod tests;
 
 pub use laws::{law_accepted_puts, law_put_lines};
 pub use reader::read_script;

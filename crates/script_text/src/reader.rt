@@ -1,14 +1,19 @@
 //! A script, read line by line.
-ghost use Rattle.std.specs.Prelude.{◌≡◌, ◌≤◌, ◌∷◌, [], length, IfOk, Ok, Some};
-ghost use Rattle.key_types.specs.Kinds.{kinds_of, values_of, and, none, number};
-ghost use Rattle.script_text.specs.Script.{IsOneInt, int_partition, no_clustering, accepted, at_line, put_on, puts_from, script_of, Answers};
-ghost use Rattle.script_text.specs.Tokens.{IsInt};
+ghost use Rattle.std.specs.Prelude.{◌≡◌, ◌≤◌, ◌∷◌, ◌++◌, ◌⊎◌, [], length, IfOk, OnOk, IsTrue};
+ghost use Rattle.std.specs.Str.{is_utf8};
+ghost use Rattle.key_types.specs.Kinds.{kinds_of, values_of, value_of, text, blob, Fits, EachFits};
+ghost use Rattle.schema_text.specs.Columns.{columns_of};
+ghost use Rattle.script_text.specs.Grammar.{LineFits, RowFits, PutFits};
+ghost use Rattle.script_text.specs.Parts.{components_in, put_in, said_in, Sees};
+ghost use Rattle.script_text.specs.Reading.{is_comment, is_blank, line_of};
+ghost use Rattle.script_text.specs.Script.{at_line, key_of, row_key, bytes_in, short_value, put_of, put_on, in_front, puts_from, script_of, Answers};
 ghost use Rattle.script_text.specs.Lines.{lines_of};
 
 use crate::lines::{first_line, over};
+use crate::puts::{PutLine, read_whole};
 use crate::script::{Batch, LineCause, Put, PutList, Script, ScriptError};
-use crate::tokens::{Stop, put_line};
 use byte_comparable::{KeyError, clustering_string, partition_string};
+use grammar::Stop;
 use key_types::{KeyBytes, ListOf, NoMemory, Schema, Value, ValueBytes, ValueList, is_text};
 use std::alloc::Global;
 
@@ -18,65 +23,133 @@ const MOST_LINES: usize = 1_000_000;
 
 const LONGEST_VALUE: usize = 65_535;
 
-/// The list of one number.
-fn one_number(alloc: Global, n: i64) -> Result<ValueList, NoMemory>
-    ensures { IfOk result (λ v. values_of v ≡ and (number n) none) }
+/// Whether the line is a comment: two dashes, and anything behind them.
+fn is_comment(line: &[u8]) -> bool
+    ensures { result ≡ is_comment line.now }
 {
-    let first = Box::new(alloc, Value::Number(n))?;
-    let rest = Box::new(alloc, ValueList::End)?;
-    Ok(ValueList::More(first, rest))
+    matches!(line, [b'-', b'-', ..])
 }
 
-/// The string of the partition of a number of int.
-fn partition_of(alloc: Global, schema: &Schema, n: i64) -> Result<KeyBytes, NoMemory>
-    requires schema { IsOneInt (kinds_of schema.now.partition) (kinds_of schema.now.clustering) }
-    requires int { IsInt n }
-    ensures { IfOk result (λ key. key ≡ int_partition n) }
+/// Whether the line has nothing but spaces.
+fn is_blank(line: &[u8]) -> bool
+    ensures { result ≡ is_blank line.now }
 {
-    let values = one_number(alloc, n)?;
-    match partition_string(alloc, schema, &values) {
-        Ok(string) => Ok(string),
-        Err(KeyError::NoMemory) => Err(NoMemory),
-        Err(_) => unreachable!(),
+    let mut rest = line;
+    'spaces: while let [b' ', after @ ..] = rest {
+        rest = after;
     }
+    rest.is_empty()
 }
 
-/// The string of the one row of a partition.
-fn row_of(alloc: Global, schema: &Schema) -> Result<KeyBytes, NoMemory>
-    requires { IsOneInt (kinds_of schema.now.partition) (kinds_of schema.now.clustering) }
-    ensures { IfOk result (λ key. key ≡ no_clustering) }
-{
-    match clustering_string(alloc, schema, &ValueList::End) {
-        Ok(string) => Ok(string),
-        Err(KeyError::NoMemory) => Err(NoMemory),
-        Err(_) => unreachable!(),
-    }
-}
-
-/// The refusal of a line.
-fn refused(line: u32) -> ScriptError
-    ensures { result ≡ ScriptError.BadLine line (LineCause.BadText 0) }
-{
-    ScriptError::BadLine(line, LineCause::BadText(0))
-}
-
-/// The put of the number and the value of a line.
-fn accept(
+/// What a line says, where it says something.
+fn read_line(
     alloc: Global,
     schema: &Schema,
     line: u32,
-    n: i64,
-    value: ValueBytes,
-) -> Result<Put, ScriptError>
-    requires schema { IsOneInt (kinds_of schema.now.partition) (kinds_of schema.now.clustering) }
-    requires int { IsInt n }
-    ensures { Answers result (at_line line (accepted line (Ok (Some n, value)))) }
+    text: &[u8],
+) -> Result<Option<PutLine>, ScriptError>
+    requires { IsTrue (is_utf8 text.now) }
+    ensures said { Sees said_in result (at_line line (line_of (columns_of schema.now) text.now)) }
+    ensures fits { IfOk result (λ said. LineFits (columns_of schema.now) (said_in said)) }
 {
-    if value.len() > LONGEST_VALUE {
-        return Err(refused(line));
+    if is_comment(text) || is_blank(text) {
+        return Ok(None);
     }
-    let partition = partition_of(alloc, schema, n)?;
-    let clustering = row_of(alloc, schema)?;
+    if let [b'-', ..] = text {
+        return Err(ScriptError::BadLine(line, LineCause::BadText(1)));
+    }
+    match read_whole(alloc, schema, text) {
+        Ok((put, None)) => Ok(Some(put)),
+        Ok((_, Some(left))) => {
+            Err(ScriptError::BadLine(line, LineCause::OutOfRange(text.len() - left)))
+        }
+        Err(Stop::Memory) => Err(ScriptError::NoMemory),
+        Err(Stop::At(left)) => {
+            Err(ScriptError::BadLine(line, LineCause::BadText(text.len() - left)))
+        }
+    }
+}
+
+/// The string of a partition.
+#[tactic(auto, using(crate::proofs::Strings::string_fits))]
+fn partition_key(
+    alloc: Global,
+    schema: &Schema,
+    line: u32,
+    values: &ValueList,
+) -> Result<KeyBytes, ScriptError>
+    requires { EachFits (kinds_of schema.now.partition) (values_of values.now) }
+    ensures { Answers result (at_line line (key_of (kinds_of schema.now.partition) (values_of values.now))) }
+{
+    match partition_string(alloc, schema, values) {
+        Ok(string) => Ok(string),
+        Err(KeyError::TooLong(length)) => {
+            Err(ScriptError::BadLine(line, LineCause::KeyTooLong(length)))
+        }
+        Err(KeyError::NoMemory) => Err(ScriptError::NoMemory),
+        Err(_) => unreachable!(),
+    }
+}
+
+/// The string of a row within its partition.
+#[tactic(auto, using(crate::proofs::Strings::string_fits))]
+fn clustering_key(
+    alloc: Global,
+    schema: &Schema,
+    line: u32,
+    values: &ValueList,
+) -> Result<KeyBytes, ScriptError>
+    requires { EachFits (kinds_of schema.now.clustering) (values_of values.now) }
+    ensures { Answers result (at_line line (key_of (kinds_of schema.now.clustering) (values_of values.now))) }
+{
+    match clustering_string(alloc, schema, values) {
+        Ok(string) => Ok(string),
+        Err(KeyError::TooLong(length)) => {
+            Err(ScriptError::BadLine(line, LineCause::KeyTooLong(length)))
+        }
+        Err(KeyError::NoMemory) => Err(ScriptError::NoMemory),
+        Err(_) => unreachable!(),
+    }
+}
+
+/// The string of a row within its partition; a static value has the empty one.
+fn row_key(
+    alloc: Global,
+    schema: &Schema,
+    line: u32,
+    clustering: &Option<ValueList>,
+) -> Result<KeyBytes, ScriptError>
+    requires { RowFits (columns_of schema.now) (components_in clustering.now) }
+    ensures { Answers result (at_line line (row_key (kinds_of schema.now.clustering) (components_in clustering.now))) }
+{
+    match clustering {
+        Some(values) => clustering_key(alloc, schema, line, values),
+        None => Ok(KeyBytes::new(alloc)),
+    }
+}
+
+/// The bytes of a value, where there are at most 65,535.
+fn short_value(line: u32, value: Value) -> Result<ValueBytes, ScriptError>
+    requires { Fits text (value_of value) ⊎ Fits blob (value_of value) }
+    ensures { Answers result (at_line line (short_value (bytes_in (value_of value)))) }
+{
+    let Value::Bytes(bytes) = value else {
+        unreachable!();
+    };
+    if bytes.len() > LONGEST_VALUE {
+        return Err(ScriptError::BadLine(line, LineCause::ValueTooLong(bytes.len())));
+    }
+    Ok(bytes)
+}
+
+/// The put with its strings.
+fn accept(alloc: Global, schema: &Schema, line: u32, put: PutLine) -> Result<Put, ScriptError>
+    requires { PutFits (columns_of schema.now) (put_in put) }
+    ensures { Answers result (at_line line (put_of (columns_of schema.now) line (put_in put))) }
+{
+    let partition = partition_key(alloc, schema, line, &put.partition)?;
+    let clustering = row_key(alloc, schema, line, &put.clustering)?;
+    let value = short_value(line, put.value)?;
     Ok(Put {
         line,
         partition,
@@ -85,29 +158,43 @@ fn accept(
     })
 }
 
-/// The put of a line.
-#[tactic(auto, unfolding(crate::specs::Script::put_on))]
-fn read_put(alloc: Global, schema: &Schema, line: u32, text: &[u8]) -> Result<Put, ScriptError>
-    requires { IsOneInt (kinds_of schema.now.partition) (kinds_of schema.now.clustering) }
-    ensures { Answers result (at_line line (put_on line text.now)) }
+/// The put of a line, where it has one.
+fn read_put(
+    alloc: Global,
+    schema: &Schema,
+    line: u32,
+    text: &[u8],
+) -> Result<Option<Put>, ScriptError>
+    ensures { Answers result (at_line line (put_on (columns_of schema.now) line text.now)) }
 {
     if !is_text(text) {
-        return Err(refused(line));
+        return Err(ScriptError::BadLine(line, LineCause::NotUtf8));
     }
-    match put_line(alloc, text) {
-        Ok((Some(n), value)) => accept(alloc, schema, line, n, value),
-        Ok((None, _)) => Err(refused(line)),
-        Err(Stop::NoMemory) => Err(ScriptError::NoMemory),
-        Err(Stop::At(_)) => Err(refused(line)),
+    match read_line(alloc, schema, line, text) {
+        Ok(Some(put)) => match accept(alloc, schema, line, put) {
+            Ok(put) => Ok(Some(put)),
+            Err(error) => Err(error),
+        },
+        Ok(None) => Ok(None),
+        Err(error) => Err(error),
+    }
+}
+
+/// Adds a put, where there is one.
+fn add(puts: &mut PutList, put: Option<Put>) -> Result<(), NoMemory>
+    ensures { OnOk result (puts.new ≡ puts.old ++ in_front put []) }
+{
+    match put {
+        Some(put) => puts.push(put),
+        None => Ok(()),
     }
 }
 
 /// The puts of all lines.
 #[tactic(auto, using(crate::proofs::Listed::behind_one_more))]
 fn read_lines(alloc: Global, schema: &Schema, bytes: &[u8]) -> Result<PutList, ScriptError>
-    requires schema { IsOneInt (kinds_of schema.now.partition) (kinds_of schema.now.clustering) }
-    requires lines { length (lines_of bytes.now) ≤ 1000000 }
-    ensures { Answers result (puts_from 1 (lines_of bytes.now)) }
+    requires { length (lines_of bytes.now) ≤ 1000000 }
+    ensures { Answers result (puts_from (columns_of schema.now) 1 (lines_of bytes.now)) }
 {
     let mut puts = ListOf::new(alloc);
     let mut rest = bytes;
@@ -115,7 +202,7 @@ fn read_lines(alloc: Global, schema: &Schema, bytes: &[u8]) -> Result<PutList, S
     'lines: while !rest.is_empty() {
         let (text, after) = first_line(rest);
         line += 1;
-        puts.push(read_put(alloc, schema, line, text)?)?;
+        add(&mut puts, read_put(alloc, schema, line, text)?)?;
         rest = after;
     }
     Ok(puts)
@@ -135,18 +222,20 @@ fn script_with(alloc: Global, puts: PutList) -> Result<Script, NoMemory>
     })
 }
 
-/// Reads the script that the bytes spell, under the schema `(int; ; text)`.
+/// Reads the script that the bytes spell, under the schema.
 ///
-/// The script's gets go to its readers in turn; the grammar of today has puts alone. Refusals: `TooLarge` exactly
-/// with over 67,108,864 bytes or 1,000,000 lines, else `BadLine` exactly with the first line that isn't accepted.
+/// A line is `put`, the components of a partition, those of a row within it, `=` and a value; where the schema has
+/// a static type also `put`, the components of a partition, `static`, `=` and a value. Lines of spaces alone and
+/// lines that begin with `--` are passed over. The script's gets go to its readers in turn; the grammar of today has
+/// puts alone. Refusals: `TooLarge` exactly with over 67,108,864 bytes or 1,000,000 lines, else `BadLine` exactly
+/// with the first line that isn't accepted and the first of its causes.
 pub fn read_script(
     alloc: Global,
     schema: &Schema,
     _readers: u32,
     bytes: &[u8],
 ) -> Result<Script, ScriptError>
-    requires { IsOneInt (kinds_of schema.now.partition) (kinds_of schema.now.clustering) }
-    ensures { Answers result (script_of bytes.now) }
+    ensures { Answers result (script_of (columns_of schema.now) bytes.now) }
 {
     if bytes.len() > MOST_BYTES || over(MOST_LINES, bytes) {
         return Err(ScriptError::TooLarge);

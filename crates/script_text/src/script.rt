@@ -2,14 +2,14 @@
 
 use key_types::{KeyBytes, ListOf, NoMemory, ValueBytes};
 
-/// A row that a line puts.
+/// A row, or the static value of a partition, that a line puts.
 #[derive(Debug, Drop)]
 pub struct Put {
     /// The number of the line, counted from 1.
     pub line: u32,
     /// The key string of the row's partition.
     pub partition: KeyBytes,
-    /// The key string of the row within its partition.
+    /// The key string of the row within its partition; the empty one names the partition's static value.
     pub clustering: KeyBytes,
     /// The value, of at most 65,535 bytes.
     pub value: ValueBytes,

@@ -12,8 +12,7 @@ use Rattle.key_types.specs.Kinds.{fits_by, more, int, end, and, none, number}
 use Rattle.key_types.specs.Table.{Entry, string_cmp}
 use Rattle.byte_comparable.specs.Strings.{checked}
 use Rattle.byte_comparable.proofs.Compare.{same, then_then}
-use Rattle.script_text.specs.Script.{int_partition}
-use Rattle.script_text.specs.Tokens.{IsInt}
+use Rattle.table_tool.specs.First.{IsInt, int_partition}
 use Rattle.data_file.specs.Strings.{IsStringOf}
 use Rattle.data_file.specs.Listing.{Row, Partition, data_bytes, ArePartitions}
 use Rattle.table_tool.specs.Grouping.{IsEntry, AreEntries, partition_in, clustering_in, row_of, alone, with_row, joined, grouped}

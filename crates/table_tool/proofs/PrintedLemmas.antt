@@ -8,7 +8,7 @@ use Rattle.std.specs.Prelude.{ℤ, pos, negsuc, ◌-ℤ◌, IsTrue}
 use Rattle.std.specs.Int.{w32, from_be_bytes, bytes_high_first}
 use Rattle.key_types.specs.Kinds.{int, number, fits_by}
 use Rattle.byte_comparable.specs.Encoding.{shifted}
-use Rattle.script_text.specs.Script.{int_partition}
+use Rattle.table_tool.specs.First.{int_partition}
 use Rattle.key_types.specs.Table.{Entry}
 use Rattle.table_tool.specs.Printed.{entry_line, entry_lines, number_in}
 

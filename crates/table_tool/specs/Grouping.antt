@@ -5,8 +5,7 @@ use Rattle.key_types.specs.Table.{Entry}
 use Rattle.key_types.specs.declared.schema.ValueType.TheVariants.{Text}
 use Rattle.data_file.specs.Strings.{IsValueOf}
 use Rattle.data_file.specs.Listing.{Row, Partition, head_bytes, end_bytes}
-use Rattle.script_text.specs.Script.{int_partition, no_clustering}
-use Rattle.script_text.specs.Tokens.{IsInt}
+use Rattle.table_tool.specs.First.{IsInt, int_partition, no_clustering}
 
 -- ---- the parts of an entry
 

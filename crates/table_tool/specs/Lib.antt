@@ -1,3 +1,4 @@
+pub mod First
 pub mod Request
 pub mod Rows
 pub mod Standing

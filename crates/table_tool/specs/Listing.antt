@@ -6,6 +6,7 @@ use Rattle.script_text.specs.declared.script.ScriptError.TheVariants as script_e
 use Rattle.script_text.specs.Script.{script_of, puts_of}
 use Rattle.table_tool.specs.declared.status.Status.{Status}
 use Rattle.table_tool.specs.declared.status.Status.TheVariants as status
+use Rattle.table_tool.specs.First.{first_columns}
 use Rattle.table_tool.specs.Rows.{rows_of}
 use Rattle.table_tool.specs.Printed.{rows_text}
 
@@ -18,7 +19,7 @@ listing_of (Err script_error.NoMemory) = Err status.NoMemory
 
 -- what `list` makes of the source's bytes: the rows of the sorted map of all puts, or why there are none
 abbrev pub listing : List ℕ → Result (List ℕ) Status
-listing bytes = listing_of (script_of bytes)
+listing bytes = listing_of (script_of first_columns bytes)
 
 -- ---- how the parts of `list` answer
 

@@ -14,6 +14,7 @@ use Rattle.script_text.specs.declared.script.ScriptError.TheVariants as script_e
 use Rattle.script_text.specs.Script.{script_of, puts_of}
 use Rattle.table_tool.specs.declared.status.Status.{Status}
 use Rattle.table_tool.specs.declared.status.Status.TheVariants as status
+use Rattle.table_tool.specs.First.{first_columns}
 use Rattle.table_tool.specs.Rows.{rows_of}
 use Rattle.table_tool.specs.Standing.{data_id, partitions_id, rows_id, schema_id, schema_text, first_types, Holds, StandFor}
 use Rattle.table_tool.specs.Outcome.{IsOrNoMemory, Prints}
@@ -37,7 +38,7 @@ loading_of (Err script_error.NoMemory) = Err status.NoMemory
 
 -- what `load` takes from the source's bytes
 abbrev pub loading : List ℕ → Result (List Put) Status
-loading bytes = loading_of (script_of bytes)
+loading bytes = loading_of (script_of first_columns bytes)
 
 -- the status that this ends with, where nothing fails
 abbrev pub ended : Result (List Put) Status → Status
@@ -163,7 +164,7 @@ Flushes files files' result bytes =
 
 -- the script is one that some bytes spell
 abbrev pub IsSpelled : Script → Type 0
-IsSpelled script = (bytes : List ℕ) × (script_of bytes ≡ Ok script)
+IsSpelled script = (bytes : List ℕ) × (script_of first_columns bytes ≡ Ok script)
 
 -- the script that is expected, unless the source failed or memory ran out
 abbrev pub Takes : Result Script Status → Result Script ScriptError → Type 0

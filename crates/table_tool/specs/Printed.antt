@@ -5,7 +5,7 @@ use Rattle.std.specs.Fmt.{decimal}
 use Rattle.key_types.specs.Kinds.{Kinds, more, end, int, Vals, and, none, number, fits_by}
 use Rattle.key_types.specs.Literals.{list_literal, text_literal}
 use Rattle.key_types.specs.Table.{Entry}
-use Rattle.script_text.specs.Script.{int_partition}
+use Rattle.table_tool.specs.First.{int_partition}
 
 -- the line of a row with a text value: its partition, its clustering, and its value
 abbrev pub row_line : Kinds → Kinds → Vals → Vals → List ℕ → List ℕ

@@ -1,10 +1,11 @@
 //! The command `list`, up to its printing.
 ghost use Rattle.std.specs.Prelude.{◌≡◌, ◌≤◌, IfOk, IfErr, IfSome, Err};
 ghost use Rattle.outside.specs.Causes.{Rose};
-ghost use Rattle.key_types.specs.Kinds.{kinds_of};
 ghost use Rattle.data_file.specs.Types.{types_of};
 ghost use Rattle.table_tool.specs.Standing.{first_types};
-ghost use Rattle.script_text.specs.Script.{IsOneInt, Answers, script_of, puts_of};
+ghost use Rattle.schema_text.specs.Columns.{columns_of};
+ghost use Rattle.script_text.specs.Script.{Answers, script_of, puts_of};
+ghost use Rattle.table_tool.specs.First.{first_columns};
 ghost use Rattle.table_tool.specs.Rows.{rows_of};
 ghost use Rattle.table_tool.specs.Printed.{rows_text};
 ghost use Rattle.table_tool.specs.Listing.{listing, Gives, GivesOrFault, EndsEarly};
@@ -20,7 +21,7 @@ use std::alloc::Global;
 
 /// The schema `(int; ; text)`.
 pub fn first_schema(alloc: Global) -> Result<Schema, NoMemory>
-    ensures one { IfOk result (λ s. IsOneInt (kinds_of s.partition) (kinds_of s.clustering)) }
+    ensures columns { IfOk result (λ s. columns_of s ≡ first_columns) }
     ensures types { IfOk result (λ s. types_of s ≡ first_types) }
 {
     let kind = Box::new(alloc, ColType::Int)?;
@@ -35,7 +36,7 @@ pub fn first_schema(alloc: Global) -> Result<Schema, NoMemory>
 
 /// The script that the bytes spell under that schema.
 pub fn first_script(alloc: Global, bytes: &[u8]) -> Result<Script, ScriptError>
-    ensures { Answers result (script_of bytes.now) }
+    ensures { Answers result (script_of first_columns bytes.now) }
 {
     let schema = first_schema(alloc)?;
     read_script(alloc, &schema, 1, bytes)

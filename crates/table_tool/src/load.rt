@@ -3,6 +3,7 @@ ghost use Rattle.std.specs.Prelude.{◌≡◌, ◌≤◌, length, IfOk, IfErr, I
 ghost use Rattle.outside.specs.Causes.{Rose};
 ghost use Rattle.outside.specs.Told.{WhereTold};
 ghost use Rattle.script_text.specs.Script.{script_of, puts_of};
+ghost use Rattle.table_tool.specs.First.{first_columns};
 ghost use Rattle.table_tool.specs.Listing.{EndsEarly};
 ghost use Rattle.table_tool.specs.Outcome.{Refuses};
 ghost use Rattle.table_tool.specs.Loading.{ok_line, one_there, loading, Changes, Loaded, LoadEnds, Loads, IsExists, IsSpelled, LeavesStore, NoneThere, StopsLoad, Takes};
@@ -35,7 +36,7 @@ fn ok_line(alloc: Global, puts: u64, rows: u64, partitions: u64) -> Result<ByteL
 
 /// The script of the source.
 fn take_script<S: Source>(alloc: Global, source: &mut S) -> Result<Script, Status>
-    ensures told { IfSome (S.left source.old) (λ bytes. Takes result (script_of bytes)) }
+    ensures told { IfSome (S.left source.old) (λ bytes. Takes result (script_of first_columns bytes)) }
     ensures spelled { IfOk result IsSpelled }
     ensures early { IfErr result EndsEarly }
     ensures later { S.faults source.old ≤ S.faults source.new }

@@ -17,6 +17,11 @@ fn scripts_are_listed_or_refused(rt: HostRuntime) -> Result<(), TestFail> {
             "(1) () = 'a'\n(2) () = 'c'\nrows 2\n",
         ),
         (b"get (1) ()", 2, "error: line 1: bad text at 0\n"),
+        (
+            b"put (1) () = 'a'\nput (x) () = 'b'",
+            2,
+            "error: line 2: bad text at 5\n",
+        ),
         (b"", 0, "rows 0\n"),
         (
             b" put(-2147483648)( )='it''s' \nput (0) () = ''\n",
@@ -26,22 +31,22 @@ fn scripts_are_listed_or_refused(rt: HostRuntime) -> Result<(), TestFail> {
         (
             b"put (1) () = 'a'\nput (2147483648) () = 'b'",
             2,
-            "error: line 2: bad text at 0\n",
+            "error: line 2: out of range at 5\n",
         ),
         (
             b"put (99999999999999999999) () = 'b'",
             2,
-            "error: line 1: bad text at 0\n",
+            "error: line 1: out of range at 5\n",
         ),
-        (b"put (01) () = 'a'", 2, "error: line 1: bad text at 0\n"),
-        (b"put (-0) () = 'a'", 2, "error: line 1: bad text at 0\n"),
-        (b"put (1) () = 'a' x", 2, "error: line 1: bad text at 0\n"),
+        (b"put (01) () = 'a'", 2, "error: line 1: bad text at 6\n"),
+        (b"put (-0) () = 'a'", 2, "error: line 1: bad text at 6\n"),
+        (b"put (1) () = 'a' x", 2, "error: line 1: bad text at 17\n"),
         (
-            b"put (1) () = 'a'\n\nput (2) () = 'b'",
-            2,
-            "error: line 2: bad text at 0\n",
+            b"-- two rows\nput (1) () = 'a'\n\nput (2) () = 'b'",
+            0,
+            "(1) () = 'a'\n(2) () = 'b'\nrows 2\n",
         ),
-        (b"put (1) () = '\xFF'", 2, "error: line 1: bad text at 0\n"),
+        (b"put (1) () = '\xFF'", 2, "error: line 1: not utf-8\n"),
     ] {
         let (status, sink) = done(&rt, alloc, &LIST, feed_of(alloc, script)?, Vec::new(alloc))?;
         assert_eq!(rt; status.number(), number, "{text}");
@@ -129,9 +134,9 @@ fn values_have_a_greatest_length(rt: HostRuntime) -> Result<(), TestFail> {
 fn scripts_have_a_greatest_size(rt: HostRuntime) -> Result<(), TestFail> {
     let alloc = rt.alloc();
     for (byte, count, number) in [
-        (b'\n', 1_000_000, 2),
+        (b'\n', 1_000_000, 0),
         (b'\n', 1_000_001, 10),
-        (b' ', 67_108_864, 2),
+        (b' ', 67_108_864, 0),
         (b' ', 67_108_865, 10),
     ] {
         let feed = Feed {

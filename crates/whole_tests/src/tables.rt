@@ -154,7 +154,7 @@ fn a_refused_script_leaves_no_file(rt: HostRuntime) -> Result<(), TestFail> {
     assert_eq!(rt; number, 2);
     assert_eq!(rt;
         text.as_slice(),
-        b"error: line 2: bad text at 0\n".as_slice()
+        b"error: line 2: bad text at 3\n".as_slice()
     );
     assert_eq!(rt; store.contents(DATA), None);
     assert_eq!(rt; store.contents(SCHEMA), None);

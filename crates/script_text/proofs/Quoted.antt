@@ -1,8 +1,0 @@
--- One more byte in front of a quoted text.
-use Rattle.std.proofs.Common.{◌≡◌, ℕ, List, [], ◌∷◌, ◌++◌, Result, Ok, Err, refl}
-use Rattle.std.proofs.lemmas.List.{append_assoc}
-use Rattle.script_text.specs.Tokens.{onto, behind}
-
-pub behind_push : (front : List ℕ) (b : ℕ) (read : Result (List ℕ × List ℕ) ℕ) → behind (front ++ b ∷ []) read ≡ behind front (onto b read)
-behind_push front b (Ok x) = rw append_assoc refl
-behind_push front b (Err e) = refl
