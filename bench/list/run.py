@@ -19,4 +19,5 @@ def script(path):
             out.write("put (%d) () = 'value %08x'\n" % (key, random.getrandbits(32)))
 
 
-compare("sigvhal", ["list", "--schema", "(int; ; text)"], os.path.join(HERE, "plain.rs"), [], script)
+WORDS = ["list", "--schema", "(int; ; text)"]
+compare("sigvhal", WORDS, os.path.join(HERE, "plain.rs"), WORDS, script)

@@ -1,5 +1,5 @@
 -- What the strings of a schema keep.
-use Rattle.std.proofs.Common.{◌≡◌, ℕ, ◌+◌, List, [], ◌∷◌, ◌++◌, length, arith, refl, sym, ◌∙◌, ap, subst, append_assoc, length-append}
+use Rattle.std.proofs.Common.{◌≡◌, ℕ, ◌+◌, List, [], ◌∷◌, ◌++◌, length, Option, None, Some, IfSome, arith, refl, sym, ◌∙◌, ap, subst, append_assoc, length-append}
 use Rattle.std.proofs.lemmas.List.{append-nil}
 use Rattle.std.specs.Ordering.{nat_cmp, ordering_then}
 use Rattle.std.specs.declared.cmp.Ordering.{Ordering}
@@ -7,7 +7,7 @@ use Rattle.std.specs.declared.cmp.Ordering.TheVariants.{Less, Equal, Greater}
 use Rattle.std.specs.Cmp.Lexicographic.{slice_cmp}
 use Rattle.key_types.specs.Kinds.{Kind, Kinds, end, more, Val, Vals, none, and, Fits, EachFits, AreBytes, order_by, orders_by}
 use Rattle.byte_comparable.specs.Encoding.{encoding, components, key_string, bound_with, LeadFits}
-use Rattle.byte_comparable.specs.Order.{Parts, lead_order, row_order, row_string, bound_order, bound_string_of}
+use Rattle.byte_comparable.specs.Order.{Key, KeyFits, Parts, key_order, lead_order, row_string, bound_order, bound_string_of, string_of_key, within_order, within_string}
 use Rattle.byte_comparable.proofs.Compare.{apart, apart_self, slice_apart, slice_front, then_then, then_equal, bytes_both, bytes_behind, Follows, follows_bytes}
 use Rattle.byte_comparable.proofs.Exactly.{both_equal, exactly, exactly_all}
 use Rattle.byte_comparable.proofs.Compose.{keeps, all_keep, are_bytes, all_are_bytes, follow_components}
@@ -24,7 +24,7 @@ all_slices : (ts : Kinds) (xs ys : Vals) (p q : List ℕ) → EachFits ts xs →
     → slice_cmp nat_cmp (components ts xs ++ p) (components ts ys ++ q) ≡ ordering_then (orders_by ts xs ys) (slice_cmp nat_cmp p q)
 all_slices ts xs ys p q f g h k = slice_by (orders_by ts xs ys) (components ts xs) (components ts ys) p q (λ e. ap (components ts) (exactly_all ts xs ys f g e)) (all_keep ts xs ys f g p q h k)
 
--- ---- rows
+-- ---- keys
 
 closing : (rest : List ℕ) → AreBytes rest → Follows (0x38 ∷ rest)
 closing rest h = ((omega arith, omega arith), h)
@@ -40,11 +40,29 @@ string_order : (ts : Kinds) (xs ys : Vals) (p q : List ℕ) → EachFits ts xs �
 string_order ts xs ys p q f g h k =
     rw (append_assoc (components ts xs) (0x38 ∷ []) p, append_assoc (components ts ys) (0x38 ∷ []) q) (all_slices ts xs ys (0x38 ∷ p) (0x38 ∷ q) f g (closing p h) (closing q k))
 
-pub row_kept : (ps cs : Kinds) (p1 c1 p2 c2 : Vals) → EachFits ps p1 → EachFits cs c1 → EachFits ps p2 → EachFits cs c2
-    → slice_cmp nat_cmp (row_string ps cs p1 c1) (row_string ps cs p2 c2) ≡ row_order ps cs p1 c1 p2 c2
-row_kept ps cs p1 c1 p2 c2 f1 g1 f2 g2 =
-    string_order ps p1 p2 (key_string cs c1) (key_string cs c2) f1 f2 (string_bytes cs c1 g1) (string_bytes cs c2 g2)
-    ∙ ap (λ r. ordering_then (orders_by ps p1 p2) r) (all_slices cs c1 c2 (0x38 ∷ []) (0x38 ∷ []) g1 g2 (closing [] tt) (closing [] tt) ∙ then_equal (orders_by cs c1 c2))
+within_bytes : (cs : Kinds) (c : Option Vals) → IfSome c (EachFits cs) → AreBytes (within_string cs c)
+within_bytes cs None f = tt
+within_bytes cs (Some c) f = string_bytes cs c f
+
+-- nothing stands before every string
+before : (xs : List ℕ) (s : ℕ) → slice_cmp nat_cmp [] (xs ++ s ∷ []) ≡ Less
+before [] s = refl
+before (x ∷ xs) s = refl
+
+behind : (xs : List ℕ) (s : ℕ) → slice_cmp nat_cmp (xs ++ s ∷ []) [] ≡ Greater
+behind [] s = refl
+behind (x ∷ xs) s = refl
+
+within_kept : (cs : Kinds) (c d : Option Vals) → IfSome c (EachFits cs) → IfSome d (EachFits cs) → slice_cmp nat_cmp (within_string cs c) (within_string cs d) ≡ within_order cs c d
+within_kept cs None None f g = refl
+within_kept cs None (Some d) f g = before (components cs d) 0x38
+within_kept cs (Some c) None f g = behind (components cs c) 0x38
+within_kept cs (Some c) (Some d) f g = all_slices cs c d (0x38 ∷ []) (0x38 ∷ []) f g (closing [] tt) (closing [] tt) ∙ then_equal (orders_by cs c d)
+
+pub keys_kept : (ps cs : Kinds) (a b : Key) → KeyFits ps cs a → KeyFits ps cs b → slice_cmp nat_cmp (string_of_key ps cs a) (string_of_key ps cs b) ≡ key_order ps cs a b
+keys_kept ps cs a b f g =
+    string_order ps a.partition b.partition (within_string cs a.clustering) (within_string cs b.clustering) f.0 g.0 (within_bytes cs a.clustering f.1) (within_bytes cs b.clustering g.1)
+    ∙ ap (λ r. ordering_then (orders_by ps a.partition b.partition) r) (within_kept cs a.clustering b.clustering f.1 g.1)
 
 -- ---- prefixes
 

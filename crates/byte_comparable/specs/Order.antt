@@ -1,5 +1,5 @@
 -- What the strings keep of the values, for every schema.
-use Rattle.std.specs.Prelude.{◌≡◌, ℕ, ◌≤◌, List, ◌∷◌, ◌++◌}
+use Rattle.std.specs.Prelude.{◌≡◌, ℕ, ◌≤◌, List, [], ◌∷◌, ◌++◌, Option, Some, None, IfSome}
 use Rattle.std.specs.Ordering.{nat_cmp, ordering_then}
 use Rattle.std.specs.declared.cmp.Ordering.{Ordering}
 use Rattle.std.specs.declared.cmp.Ordering.TheVariants.{Less, Equal, Greater}
@@ -7,18 +7,43 @@ use Rattle.std.specs.Cmp.Lexicographic.{slice_cmp}
 use Rattle.key_types.specs.Kinds.{Kind, Kinds, more, Val, Vals, and, Fits, EachFits, order_by, orders_by}
 use Rattle.byte_comparable.specs.Encoding.{encoding, key_string, bound_with, LeadFits}
 
--- the order of two rows: partition components, then clustering components
-abbrev pub row_order : Kinds → Kinds → Vals → Vals → Vals → Vals → Ordering
-row_order ps cs p1 c1 p2 c2 = ordering_then (orders_by ps p1 p2) (orders_by cs c1 c2)
-
 -- the string of a row: that of its partition, then that of its clustering
 abbrev pub row_string : Kinds → Kinds → Vals → Vals → List ℕ
 row_string ps cs p c = key_string ps p ++ key_string cs c
 
--- the order of the strings of any schema is the order of the values
+-- a typed key: partition components, and clustering components; a static key, which names a partition's static value, has none of these
+pub record Key : Type 0 where
+  pub partition : Vals
+  pub clustering : Option Vals
+
+-- each component fits its type
+abbrev pub KeyFits : Kinds → Kinds → Key → Type 0
+KeyFits ps cs key = EachFits ps key.partition × IfSome key.clustering (EachFits cs)
+
+-- within a partition the static key is first, and the others go by clustering components
+abbrev pub within_order : Kinds → Option Vals → Option Vals → Ordering
+within_order cs None None = Equal
+within_order cs None (Some c) = Less
+within_order cs (Some c) None = Greater
+within_order cs (Some c) (Some d) = orders_by cs c d
+
+-- the order of two keys: partition components, then within the partition
+abbrev pub key_order : Kinds → Kinds → Key → Key → Ordering
+key_order ps cs a b = ordering_then (orders_by ps a.partition b.partition) (within_order cs a.clustering b.clustering)
+
+-- the string within the partition, where there are clustering components
+abbrev pub within_string : Kinds → Option Vals → List ℕ
+within_string cs None = []
+within_string cs (Some c) = key_string cs c
+
+-- the string of a key: that of a row, or for a static key that of its partition
+abbrev pub string_of_key : Kinds → Kinds → Key → List ℕ
+string_of_key ps cs key = key_string ps key.partition ++ within_string cs key.clustering
+
+-- the order of the strings of any schema is the order of the keys
 abbrev pub KeepsOrder : Type 0
-KeepsOrder = (ps cs : Kinds) (p1 c1 p2 c2 : Vals) → EachFits ps p1 → EachFits cs c1 → EachFits ps p2 → EachFits cs c2
-    → slice_cmp nat_cmp (row_string ps cs p1 c1) (row_string ps cs p2 c2) ≡ row_order ps cs p1 c1 p2 c2
+KeepsOrder = (ps cs : Kinds) (a b : Key) → KeyFits ps cs a → KeyFits ps cs b
+    → slice_cmp nat_cmp (string_of_key ps cs a) (string_of_key ps cs b) ≡ key_order ps cs a b
 
 -- a byte that may stand behind an encoding: separators and terminators, also complemented
 abbrev pub Parts : ℕ → Type 0

@@ -1,6 +1,6 @@
 ghost use Rattle.byte_comparable.specs.Order.{KeepsOrder, AreWeaklyPrefixFree, ArePrefixFree, IsRange};
 
-/// The order of the strings is the order of the values.
+/// The order of the strings of keys is the order of the keys: by partition components, and within a partition the static key first, the others by clustering components.
 pub fn law_order()
     ensures { KeepsOrder }
 {}

@@ -1,4 +1,4 @@
-ghost use Rattle.std.specs.Prelude.{◌≡◌, ◌≤◌, ◌<◌, ◌+◌, ◌^◌, ◌++◌, nat_eq, nat_le, IfNone, OnOk};
+ghost use Rattle.std.specs.Prelude.{◌≡◌, ◌≤◌, ◌<◌, ◌+◌, ◌^◌, ◌++◌, [], nat_eq, nat_le, IfNone, IfOk, OnOk};
 ghost use Rattle.byte_comparable.specs.declared.strings.KeyError.TheVariants.{NoMemory};
 ghost use Rattle.key_types.specs.Kinds.{kinds_of, values_of};
 ghost use Rattle.key_types.specs.Layout.{count_of};
@@ -39,6 +39,9 @@ pub enum Side {
 
 /// The greatest length of a string, in bytes.
 const LONGEST: usize = 1024;
+
+/// The room, in bytes, that a string is given at first, so that most never grow.
+const ROOM: usize = 24;
 
 const BEFORE: u8 = 0x20;
 
@@ -99,6 +102,13 @@ fn put_leading(kinds: &TypeList, values: &ValueList, out: &mut ByteList) -> Resu
     }
 }
 
+/// No bytes, with room for most strings.
+fn empty_string(alloc: Global) -> Result<KeyBytes, NoMemory>
+    ensures { IfOk result (λ string. string ≡ []) }
+{
+    Ok(ByteList::from_vec(Vec::with_capacity(alloc, ROOM)?))
+}
+
 /// The string of the components that there are, with a last byte.
 fn string_with(
     alloc: Global,
@@ -114,7 +124,7 @@ fn string_with(
     if let Some(at) = first_misfit(0, kinds, values) {
         return Err(KeyError::WrongType(at));
     }
-    let mut string = ByteList::new(alloc);
+    let mut string = empty_string(alloc)?;
     put_leading(kinds, values, &mut string)?;
     string.push(last)?;
     if string.len() > LONGEST {

@@ -1,7 +1,7 @@
 -- The command line that the tool declares to `clap`.
 use Rattle.std.specs.Prelude.{true, [], ◌∷◌, codes}
 use Rattle.clap.specs.Simple.{App, Shape, new_shape}
-use Rattle.command_line.specs.Forms.{with_commands, with_required}
+use Rattle.command_line.specs.Forms.{flag, with, with_commands, with_options, with_required}
 
 -- `list --schema S`
 abbrev pub list : Shape
@@ -14,6 +14,10 @@ load = with_required (new_shape (codes "load")) (codes "schema" ∷ [])
 -- `scan`
 abbrev pub scan : Shape
 scan = with_required (new_shape (codes "scan")) []
+
+-- `key --schema S`, with `--encode L`, `--decode H` and `--clustering` each there or not
+abbrev pub key : Shape
+key = with (with_options (with_required (new_shape (codes "key")) (codes "schema" ∷ [])) (codes "encode" ∷ codes "decode" ∷ [])) (flag (codes "clustering"))
 
 -- the command line before its commands: one of them has to be named, and there is no help and no version
 abbrev pub bare : App
@@ -29,4 +33,4 @@ bare = record {
 
 -- the command line: its commands
 abbrev pub tool : App
-tool = with_commands bare (list ∷ load ∷ scan ∷ [])
+tool = with_commands bare (list ∷ load ∷ scan ∷ key ∷ [])

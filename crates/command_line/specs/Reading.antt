@@ -8,7 +8,7 @@ use Rattle.clap.specs.Simple.{subcommand_of}
 use Rattle.clap.specs.Kinds.{Kinds}
 use Rattle.clap.specs.Faults.{fault_of}
 use Rattle.command_line.specs.Grammar.{tool}
-use Rattle.command_line.specs.Said.{Said, list, load, scan}
+use Rattle.command_line.specs.Said.{Said, Way, list, load, scan, key, encode, decode}
 use Rattle.command_line.specs.declared.command.WordsError.{WordsError}
 use Rattle.command_line.specs.declared.command.WordsError.TheVariants.{Usage}
 
@@ -52,11 +52,29 @@ list_in rows = reads (needed_text (first_of (codes "schema") rows)) (λ schema. 
 abbrev pub load_in : List Row → Result Said WordsError
 load_in rows = reads (needed_text (first_of (codes "schema") rows)) (λ schema. Ok (load schema))
 
+-- a flag is there: `clap` says so by the text true
+abbrev pub is_set : Option Text → Bool
+is_set None = false
+is_set (Some text) = bytes_eq text (codes "true")
+
+-- what `key` is to do, where exactly one of its two options is there
+abbrev pub one_way : Option Text → Option Text → Result Way WordsError
+one_way (Some text) None = Ok (encode text)
+one_way None (Some text) = Ok (decode text)
+one_way _ _ = Err Usage
+
+-- `key` with its values
+abbrev pub key_in : List Row → Result Said WordsError
+key_in rows = reads (needed_text (first_of (codes "schema") rows)) (λ schema.
+    reads (one_way (first_of (codes "encode") rows) (first_of (codes "decode") rows)) (λ way.
+    Ok (key schema (is_set (first_of (codes "clustering") rows)) way)))
+
 -- the command of this name, with the values that were found for it
 abbrev pub said_by : Text → List Row → Result Said WordsError
 said_by name rows = if bytes_eq name (codes "list") then list_in rows
     else (if bytes_eq name (codes "load") then load_in rows
-    else (if bytes_eq name (codes "scan") then Ok scan else Err Usage))
+    else (if bytes_eq name (codes "scan") then Ok scan
+    else (if bytes_eq name (codes "key") then key_in rows else Err Usage)))
 
 -- what the words that were found say
 abbrev pub said_in : Result (Option (Text × List Row)) WordsError → Result Said WordsError

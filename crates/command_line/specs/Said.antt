@@ -1,23 +1,37 @@
 -- What the words say: a command and its values, each a text.
-use Rattle.std.specs.Prelude.{◌≡◌, Result, Ok, Err}
+use Rattle.std.specs.Prelude.{◌≡◌, Bool, Result, Ok, Err}
 use Rattle.std.specs.String.{string_bytes}
 use Rattle.clap.specs.Walk.{Text}
 use Rattle.command_line.specs.declared.command.Command.{Command}
 use Rattle.command_line.specs.declared.command.Command.TheVariants as command
+use Rattle.command_line.specs.declared.command.KeyWay.{KeyWay}
+use Rattle.command_line.specs.declared.command.KeyWay.TheVariants.{Encode, Decode}
 use Rattle.command_line.specs.declared.command.WordsError.{WordsError}
 use Rattle.command_line.specs.declared.command.WordsError.TheVariants.{Usage, NoMemory}
+
+-- what `key` is to do, with the text of its option
+pub data Way : Type 0 where
+  encode : (list : Text) → Way
+  decode : (digits : Text) → Way
 
 -- a command with its values
 pub data Said : Type 0 where
   list : (schema : Text) → Said
   load : (schema : Text) → Said
   scan : Said
+  key : (schema : Text) → (clustering : Bool) → (way : Way) → Said
+
+-- what `key` of the code is to do
+abbrev pub way_of : KeyWay → Way
+way_of (Encode text) = encode (string_bytes text)
+way_of (Decode text) = decode (string_bytes text)
 
 -- what a command of the code says
 abbrev pub said_of : Command → Said
 said_of (command.List arguments) = list (string_bytes arguments.schema)
 said_of (command.Load arguments) = load (string_bytes arguments.schema)
 said_of command.Scan = scan
+said_of (command.Key arguments) = key (string_bytes arguments.schema) arguments.clustering (way_of arguments.way)
 
 -- the answer is the expected one as `view` sees it, or memory ran out
 abbrev pub Answers : {X Y : Type 0} → (X → Y) → Result X WordsError → Result Y WordsError → Type 0

@@ -15,6 +15,26 @@ pub struct LoadArguments {
     pub schema: String,
 }
 
+/// What `key` is to do.
+#[derive(Debug, Drop)]
+pub enum KeyWay {
+    /// `--encode L`, with the list as its text.
+    Encode(String),
+    /// `--decode H`, with the string in hexadecimal as its text.
+    Decode(String),
+}
+
+/// The values of `key`.
+#[derive(Debug, Drop)]
+pub struct KeyArguments {
+    /// The schema, as its text.
+    pub schema: String,
+    /// Whether the components are those within the partition, and not the partition's.
+    pub clustering: bool,
+    /// What is to be done.
+    pub way: KeyWay,
+}
+
 /// A command of the tool, with its values.
 #[derive(Debug, Drop)]
 pub enum Command {
@@ -24,6 +44,8 @@ pub enum Command {
     Load(LoadArguments),
     /// `scan`
     Scan,
+    /// `key --schema S [--clustering] --encode L` or `.. --decode H`
+    Key(KeyArguments),
 }
 
 /// Why no command was read.

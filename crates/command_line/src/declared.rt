@@ -9,6 +9,13 @@ ghost use Rattle.command_line.specs.Grammar as grammar;
 use clap::{Arg, ArgAction, Command};
 use std::alloc::{AllocError, Global};
 
+fn option<'a>(alloc: Global, name: &'a str) -> Arg<'a>
+    ensures rule { rule_of result ≡ form.option name.entry.now }
+    ensures local { result.global ≡ false }
+{
+    Arg::new(alloc, name).long(name).action(ArgAction::Set)
+}
+
 fn required_option<'a>(alloc: Global, name: &'a str) -> Arg<'a>
     ensures rule { rule_of result ≡ form.required_option name.entry.now }
     ensures local { result.global ≡ false }
@@ -17,6 +24,13 @@ fn required_option<'a>(alloc: Global, name: &'a str) -> Arg<'a>
         .long(name)
         .action(ArgAction::Set)
         .required(true)
+}
+
+fn flag<'a>(alloc: Global, name: &'a str) -> Arg<'a>
+    ensures rule { rule_of result ≡ form.flag name.entry.now }
+    ensures local { result.global ≡ false }
+{
+    Arg::new(alloc, name).long(name).action(ArgAction::SetTrue)
 }
 
 /// The command with one more argument, the last.
@@ -41,6 +55,24 @@ fn with_required<'a>(
     let mut rest = names;
     'names: while let [name, after @ ..] = rest {
         command = with(command, required_option(alloc, *name))?;
+        rest = after;
+    }
+    Ok(command)
+}
+
+/// The command with options of these names, after its other arguments.
+fn with_options<'a>(
+    alloc: Global,
+    command: Command<'a>,
+    names: &[&'a str],
+) -> Result<Command<'a>, AllocError>
+    ensures shape { IfOk result (λ c. shape_of c ≡ form.with_options (shape_of command.entry) (texts names.now)) }
+    ensures local { IfOk result (λ c. (fields_of c).has_globals ≡ (fields_of command.entry).has_globals) }
+{
+    let mut command = command;
+    let mut rest = names;
+    'names: while let [name, after @ ..] = rest {
+        command = with(command, option(alloc, *name))?;
         rest = after;
     }
     Ok(command)
@@ -75,6 +107,15 @@ fn scan<'a>(alloc: Global) -> Command<'a>
     Command::new(alloc, "scan")
 }
 
+fn key<'a>(alloc: Global) -> Result<Command<'a>, AllocError>
+    ensures shape { IfOk result (λ c. shape_of c ≡ grammar.key) }
+    ensures local { IfOk result (λ c. (fields_of c).has_globals ≡ false) }
+{
+    let command = with_required(alloc, Command::new(alloc, "key"), &["schema"])?;
+    let command = with_options(alloc, command, &["encode", "decode"])?;
+    with(command, flag(alloc, "clustering"))
+}
+
 /// The command line before its commands.
 fn bare<'a>(alloc: Global) -> Command<'a>
     ensures { app_of result ≡ grammar.bare }
@@ -86,11 +127,19 @@ fn bare<'a>(alloc: Global) -> Command<'a>
         .subcommand_required(true)
 }
 
+/// The command line with the commands that read scripts, after its others.
+fn with_scripts<'a>(alloc: Global, tool: Command<'a>) -> Result<Command<'a>, AllocError>
+    ensures { IfOk result (λ c. app_of c ≡ form.with_commands (app_of tool.entry) (grammar.list ∷ grammar.load ∷ [])) }
+{
+    let tool = with_command(tool, list(alloc)?)?;
+    with_command(tool, load(alloc)?)
+}
+
 /// The command line, with its commands.
 pub fn tool<'a>(alloc: Global) -> Result<Command<'a>, AllocError>
     ensures { IfOk result (λ c. app_of c ≡ grammar.tool) }
 {
-    let tool = with_command(bare(alloc), list(alloc)?)?;
-    let tool = with_command(tool, load(alloc)?)?;
-    with_command(tool, scan(alloc))
+    let tool = with_scripts(alloc, bare(alloc))?;
+    let tool = with_command(tool, scan(alloc))?;
+    with_command(tool, key(alloc)?)
 }

@@ -1,11 +1,11 @@
 //! Values of the matches, by what `clap` says of the words.
-ghost use Rattle.std.specs.Prelude.{◌≡◌, option_map};
+ghost use Rattle.std.specs.Prelude.{◌≡◌, codes, option_map};
 ghost use Rattle.clap.specs.Words.{found_of, rows_of, first_of, subcommand_rows_of};
 ghost use Rattle.std.specs.String.{string_bytes};
-ghost use Rattle.command_line.specs.Reading.{needed_text};
-ghost use Rattle.command_line.specs.Said.{Answers};
+ghost use Rattle.command_line.specs.Reading.{is_set, needed_text, one_way};
+ghost use Rattle.command_line.specs.Said.{Answers, way_of};
 
-use crate::command::WordsError;
+use crate::command::{KeyWay, WordsError};
 use clap::ArgMatches;
 use std::alloc::Global;
 
@@ -30,5 +30,27 @@ pub fn needed_text(alloc: Global, matches: &ArgMatches, name: &str) -> Result<St
     match given(matches, name) {
         Some(text) => Ok(String::from_str(alloc, text)?),
         None => Err(WordsError::Usage),
+    }
+}
+
+/// Whether the flag is there.
+pub fn is_set(matches: &ArgMatches, name: &str) -> bool
+    ensures { result ≡ is_set (first_of name.now (rows_of (found_of matches.now))) }
+{
+    match given(matches, name) {
+        Some(text) => text == "true",
+        None => false,
+    }
+}
+
+/// What `key` is to do, where exactly one of its two options is there.
+pub fn one_way(alloc: Global, matches: &ArgMatches) -> Result<KeyWay, WordsError>
+    ensures { let rows = rows_of (found_of matches.now) in
+        Answers way_of result (one_way (first_of (codes "encode") rows) (first_of (codes "decode") rows)) }
+{
+    match (given(matches, "encode"), given(matches, "decode")) {
+        (Some(list), None) => Ok(KeyWay::Encode(String::from_str(alloc, list)?)),
+        (None, Some(digits)) => Ok(KeyWay::Decode(String::from_str(alloc, digits)?)),
+        _ => Err(WordsError::Usage),
     }
 }

@@ -7,8 +7,8 @@ mod getters;
 mod laws;
 mod reading;
 
-pub use command::{Command, ListArguments, LoadArguments, WordsError};
-pub use laws::law_list;
+pub use command::{Command, KeyArguments, KeyWay, ListArguments, LoadArguments, WordsError};
+pub use laws::{law_key, law_list};
 pub use reading::read_words;
 
 #[cfg(test)]

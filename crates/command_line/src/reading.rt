@@ -3,12 +3,12 @@ ghost use Rattle.std.specs.Prelude.{◌≡◌, ◌↔◌, map};
 ghost use Rattle.std.specs.List.{list_any};
 ghost use Rattle.std.specs.String.{string_bytes};
 ghost use Rattle.clap.specs.Words.{found_of, kind_of, rows_of, subcommand_rows_of};
-ghost use Rattle.command_line.specs.Reading.{command_of, found_in, is_refused, list_in, load_in, said_by};
+ghost use Rattle.command_line.specs.Reading.{command_of, found_in, is_refused, key_in, list_in, load_in, said_by};
 ghost use Rattle.command_line.specs.Said.{Answers, said_of};
 
-use crate::command::{Command, ListArguments, LoadArguments, WordsError};
+use crate::command::{Command, KeyArguments, ListArguments, LoadArguments, WordsError};
 use crate::declared::tool;
-use crate::getters::{chosen, needed_text};
+use crate::getters::{chosen, is_set, needed_text, one_way};
 use clap::error::ErrorKind;
 use clap::{ArgMatches, Error};
 use std::alloc::Global;
@@ -66,6 +66,19 @@ fn load(alloc: Global, matches: &ArgMatches) -> Result<Command, WordsError>
     Ok(Command::Load(LoadArguments { schema }))
 }
 
+fn key(alloc: Global, matches: &ArgMatches) -> Result<Command, WordsError>
+    ensures { Answers said_of result (key_in (rows_of (found_of matches.now))) }
+{
+    let schema = needed_text(alloc, matches, "schema")?;
+    let way = one_way(alloc, matches)?;
+    let clustering = is_set(matches, "clustering");
+    Ok(Command::Key(KeyArguments {
+        schema,
+        clustering,
+        way,
+    }))
+}
+
 fn command(alloc: Global, name: &str, matches: &ArgMatches) -> Result<Command, WordsError>
     ensures { Answers said_of result (said_by name.now (rows_of (found_of matches.now))) }
 {
@@ -73,6 +86,7 @@ fn command(alloc: Global, name: &str, matches: &ArgMatches) -> Result<Command, W
         "list" => list(alloc, matches),
         "load" => load(alloc, matches),
         "scan" => Ok(Command::Scan),
+        "key" => key(alloc, matches),
         _ => Err(WordsError::Usage),
     }
 }

@@ -1,4 +1,4 @@
-use crate::{Command, WordsError, read_words};
+use crate::{Command, KeyArguments, KeyWay, WordsError, read_words};
 use std::alloc::{AllocError, Global};
 
 fn words_of(alloc: Global, words: &[&str]) -> Result<Vec<String>, AllocError> {
@@ -9,13 +9,27 @@ fn words_of(alloc: Global, words: &[&str]) -> Result<Vec<String>, AllocError> {
     Ok(texts)
 }
 
-/// The schema of `list` or `load`, or `scan`, or `usage`.
+/// What `key` is to do, of which schema, and whether within the partition.
+fn key_said(alloc: Global, arguments: KeyArguments) -> Result<String, AllocError> {
+    let KeyArguments {
+        schema,
+        clustering,
+        way,
+    } = arguments;
+    match way {
+        KeyWay::Encode(list) => format!(in alloc; "encode {list} {schema} {clustering}"),
+        KeyWay::Decode(digits) => format!(in alloc; "decode {digits} {schema} {clustering}"),
+    }
+}
+
+/// The schema of `list` or `load`, what `key` says, or `scan`, or `usage`.
 fn said_by(alloc: Global, words: &[&str]) -> Result<String, AllocError> {
     let texts = words_of(alloc, words)?;
     match read_words(alloc, texts.as_slice()) {
         Ok(Command::List(arguments)) => Ok(arguments.schema),
         Ok(Command::Load(arguments)) => Ok(arguments.schema),
         Ok(Command::Scan) => String::from_str(alloc, "scan"),
+        Ok(Command::Key(arguments)) => key_said(alloc, arguments),
         Err(WordsError::Usage) => String::from_str(alloc, "usage"),
         Err(WordsError::NoMemory) => Err(AllocError),
     }
@@ -24,7 +38,7 @@ fn said_by(alloc: Global, words: &[&str]) -> Result<String, AllocError> {
 #[test]
 fn takes_the_commands(rt: HostRuntime) -> Result<(), AllocError> {
     let alloc = rt.alloc();
-    let table: [(&[&str], &str); 9] = [
+    let table: [(&[&str], &str); 14] = [
         (&["list", "--schema", "(int; ; text)"], "(int; ; text)"),
         (&["list", "--schema=(int; ; text)"], "(int; ; text)"),
         (&["list", "--schema="], ""),
@@ -34,6 +48,20 @@ fn takes_the_commands(rt: HostRuntime) -> Result<(), AllocError> {
         (&["list", "--schema", "-"], "-"),
         (&["load", "--schema", "(int; ; text)"], "(int; ; text)"),
         (&["scan"], "scan"),
+        (
+            &["key", "--schema", "s", "--encode", "(1)"],
+            "encode (1) s false",
+        ),
+        (
+            &["key", "--schema", "s", "--clustering", "--encode", "(1)"],
+            "encode (1) s true",
+        ),
+        (&["key", "--decode=40", "--schema=s"], "decode 40 s false"),
+        (
+            &["key", "--clustering", "--decode", "40", "--schema=s"],
+            "decode 40 s true",
+        ),
+        (&["key", "--encode=-1", "--schema="], "encode -1  false"),
     ];
     for (words, schema) in table {
         let read = said_by(alloc, words)?;
@@ -45,7 +73,7 @@ fn takes_the_commands(rt: HostRuntime) -> Result<(), AllocError> {
 #[test]
 fn refuses_other_words(rt: HostRuntime) -> Result<(), AllocError> {
     let alloc = rt.alloc();
-    let table: [&[&str]; 27] = [
+    let table: [&[&str]; 36] = [
         &[],
         &[""],
         &["list"],
@@ -66,6 +94,28 @@ fn refuses_other_words(rt: HostRuntime) -> Result<(), AllocError> {
         &["load"],
         &["scan", "--schema", "s"],
         &["scan", "list"],
+        &["key"],
+        &["key", "--schema", "s"],
+        &["key", "--encode", "(1)"],
+        &["key", "--schema", "s", "--clustering"],
+        &["key", "--schema", "s", "--encode", "(1)", "--decode", "40"],
+        &["key", "--schema", "s", "--encode", "(1)", "--encode", "(1)"],
+        &["key", "--schema", "s", "--decode=40", "--decode=40"],
+        &[
+            "key",
+            "--schema=s",
+            "--encode=(1)",
+            "--clustering",
+            "--clustering",
+        ],
+        &[
+            "key",
+            "--schema",
+            "s",
+            "--encode",
+            "(1)",
+            "--clustering=true",
+        ],
         &["--schema", "s", "list"],
         &["list", "--schema", "help"],
         &["list", "--schema", "s", "--help"],

@@ -1,26 +1,26 @@
 -- What the parts of a row say of its frame.
-use Rattle.std.proofs.Common.{◌≡◌, ◌∙◌, ℕ, ◌+◌, ◌<◌, ◌≤◌, ◌^◌, List, ◌∷◌, ◌++◌, length, arith, ap, sym, subst, append_assoc, length-append}
-use Rattle.data_file.specs.Types.{Types}
+use Rattle.std.proofs.Common.{◌≡◌, ◌∙◌, ℕ, ◌+◌, ◌<◌, ◌≤◌, ◌^◌, List, ◌∷◌, ◌++◌, length, Option, None, Some, IfSome, arith, ap, sym, subst, append_assoc, length-append}
+use Rattle.key_types.specs.Columns.{Columns, IsValueOf}
 use Rattle.key_types.specs.declared.schema.ValueType.{ValueType}
 use Rattle.key_types.specs.declared.schema.ValueType.TheVariants.{Text, Blob}
-use Rattle.data_file.specs.Strings.{IsStringOf, IsValueOf}
-use Rattle.data_file.specs.Listing.{counted, row_bytes, IsRow}
-use Rattle.data_file.specs.Reading.{BeginsEnd, BeginsRow, NoHead, NoRow}
-use Rattle.data_file.specs.Parsing.{IsCutOff, IsFrame, NoFrame}
+use Rattle.key_decode.specs.Strings.{IsStringOf}
+use Rattle.data_file.specs.Listing.{counted, row_bytes, IsFixed, IsRow}
+use Rattle.data_file.specs.Reading.{BeginsEnd, BeginsRow, NoFixed, NoHead, NoRow}
+use Rattle.data_file.specs.Parsing.{IsCutOff, IsFixedFrame, IsFrame, NoFixedFrame, NoFrame}
 use Rattle.data_file.proofs.Counted.{behind_first, counted-same, row-same}
-use Rattle.data_file.proofs.Words.{string_length}
+use Rattle.key_decode.proofs.Known.{string_length}
 
 -- ---- heads
 
-pub no_head_cut : (types : Types) (bytes : List ℕ) → IsCutOff bytes → NoHead types bytes
-no_head_cut types bytes cut key (is, (rest, e)) =
-    let short = string_length types.partition key is in
+pub no_head_cut : (columns : Columns) (bytes : List ℕ) → IsCutOff bytes → NoHead columns bytes
+no_head_cut columns bytes cut key (is, (rest, e)) =
+    let short = string_length columns.partition key is in
     cut key rest (omega arith) e
 
-pub no_head_else : (types : Types) (bytes key rest : List ℕ) → bytes ≡ counted key ++ rest → (IsStringOf types.partition key → ⊥) → NoHead types bytes
-no_head_else types bytes key rest at not other (is, (more, e)) =
+pub no_head_else : (columns : Columns) (bytes key rest : List ℕ) → bytes ≡ counted key ++ rest → (IsStringOf columns.partition key → ⊥) → NoHead columns bytes
+no_head_else columns bytes key rest at not other (is, (more, e)) =
     let same = (counted-same key other rest more (sym at ∙ e)).0 in
-    not (subst (λ (k : List ℕ). IsStringOf types.partition k) (sym same) is)
+    not (subst (λ (k : List ℕ). IsStringOf columns.partition k) (sym same) is)
 
 -- ---- frames
 
@@ -50,24 +50,24 @@ short_second bytes c rest at m (cut, n) =
 
 -- ---- rows
 
-frame_of : (types : Types) (bytes c v : List ℕ) → BeginsRow types bytes c v → (length c ≤ 1024) × IsFrame bytes c v
-frame_of types bytes c v ((string, value), at) =
-    let short = string_length types.clustering c string in
-    (short, (omega arith, value_length types.value v value, at))
-  where
-    value_length : (kind : ValueType) (v : List ℕ) → IsValueOf kind v → length v < 2 ^ 16
-    value_length Text v is = is.0
-    value_length Blob v is = is
+value_length : (kind : ValueType) (v : List ℕ) → IsValueOf kind v → length v < 2 ^ 16
+value_length Text v is = let short = is.0 in omega arith
+value_length Blob v is = omega arith
 
-pub no_row : (types : Types) (bytes : List ℕ) → NoFrame bytes → NoRow types bytes
-no_row types bytes none = (λ c v row. let frame = frame_of types bytes c v row in none.0 c v frame.0 frame.1, none.1)
+frame_of : (columns : Columns) (bytes c v : List ℕ) → BeginsRow columns bytes c v → (length c ≤ 1024) × IsFrame bytes c v
+frame_of columns bytes c v ((string, value), at) =
+    let short = string_length columns.clustering c string in
+    (short, (omega arith, value_length columns.value v value, at))
 
-pub no_row_else : (types : Types) (bytes c v : List ℕ) → IsFrame bytes c v → (IsRow types c v → ⊥) → (more : List ℕ) → NoRow types (bytes ++ more)
-no_row_else types bytes c v (k, l, (rest, at)) not more =
+pub no_row : (columns : Columns) (bytes : List ℕ) → NoFrame bytes → NoRow columns bytes
+no_row columns bytes none = (λ c v row. let frame = frame_of columns bytes c v row in none.0 c v frame.0 frame.1, none.1)
+
+pub no_row_else : (columns : Columns) (bytes c v : List ℕ) → IsFrame bytes c v → (IsRow columns c v → ⊥) → (more : List ℕ) → NoRow columns (bytes ++ more)
+no_row_else columns bytes c v (k, l, (rest, at)) not more =
     let all : bytes ++ more ≡ row_bytes c v ++ (rest ++ more) = ap (λ t. t ++ more) at ∙ append_assoc (row_bytes c v) rest more in (
       λ d w (is, (behind, e)).
           let same = row-same c v (rest ++ more) d w behind (sym all ∙ e) in
-          not (subst (λ (x : List ℕ). IsRow types x v) (sym same.0) (subst (λ (x : List ℕ). IsRow types d x) (sym same.1) is)),
+          not (subst (λ (x : List ℕ). IsRow columns x v) (sym same.0) (subst (λ (x : List ℕ). IsRow columns d x) (sym same.1) is)),
       λ (behind, e). no_end _ (behind, sym (all ∙ behind_first c v (rest ++ more)) ∙ e),
     )
 
@@ -76,3 +76,25 @@ frame_short bytes rest e (none, n) = (subst NoFrame (sym e) none, (let long : le
 
 pub frame_bad : (bytes rest more : List ℕ) → bytes ≡ 1 ∷ rest → NoFrame (1 ∷ (rest ++ more)) → NoFrame (bytes ++ more)
 frame_bad bytes rest more e none = subst NoFrame (sym (ap (λ t. t ++ more) e)) none
+
+-- ---- static parts
+
+fixed_frame : (static : Option ValueType) (value : Option (List ℕ)) → IsFixed static value → IfSome value (λ v. length v < 2 ^ 16)
+fixed_frame static None is = tt
+fixed_frame None (Some v) is = absurd is
+fixed_frame (Some kind) (Some v) is = value_length kind v is
+
+pub no_fixed : (columns : Columns) (bytes : List ℕ) → NoFixedFrame bytes → NoFixed columns bytes
+no_fixed columns bytes none value (is, at) = none value (fixed_frame columns.static_value value is, at)
+
+-- a value that isn't one of the type
+pub no_fixed_else : (columns : Columns) (bytes v : List ℕ) (kind : ValueType) → columns.static_value ≡ Some kind → IsFixedFrame bytes (Some v) → (IsValueOf kind v → ⊥)
+    → (more : List ℕ) → NoFixed columns (bytes ++ more)
+no_fixed_else columns bytes v kind static (l, (rest, at)) not more None (is, (behind, e)) =
+    let first : 1 ∷ ((counted v ++ rest) ++ more) ≡ 0 ∷ behind = sym (ap (λ t. t ++ more) at) ∙ e in cc
+no_fixed_else columns bytes v kind static (l, (rest, at)) not more (Some u) (is, (behind, e)) =
+    let first : 1 ∷ ((counted v ++ rest) ++ more) ≡ 1 ∷ (counted u ++ behind) = sym (ap (λ t. t ++ more) at) ∙ e in
+    let tails : (counted v ++ rest) ++ more ≡ counted u ++ behind = cc in
+    let same = (counted-same v u (rest ++ more) behind (sym (append_assoc (counted v) rest more) ∙ tails)).0 in
+    let fits : IsFixed (Some kind) (Some u) = subst (λ (t : Option ValueType). IsFixed t (Some u)) static is in
+    not (subst (IsValueOf kind) (sym same) fits)

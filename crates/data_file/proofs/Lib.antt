@@ -4,4 +4,3 @@ mod Frames
 mod Pages
 mod Puts
 pub mod Unique
-pub mod Words

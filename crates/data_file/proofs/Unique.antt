@@ -1,6 +1,6 @@
 -- The bytes of a data file spell one list of partitions.
 use Rattle.std.proofs.Common.{◌≡◌, ◌∙◌, ℕ, List, [], ◌∷◌, ◌++◌, Option, None, Some, refl, sym, ap, append_assoc}
-use Rattle.data_file.specs.Types.{Types}
+use Rattle.key_types.specs.Columns.{Columns}
 use Rattle.key_types.specs.declared.schema.ValueType.{ValueType}
 use Rattle.data_file.specs.Listing.{ArePartitions, IsFixed, Lists, Partition, Row, counted, data_bytes, end_bytes, fixed_bytes, partition_bytes, row_bytes, rows_bytes}
 use Rattle.data_file.proofs.Counted.{behind_first, counted-same}
@@ -31,7 +31,7 @@ rows_front (row ∷ rows) (other ∷ others) t u e =
     (λ i. same i ∷ same_rest i, rest.1)
 
 -- the static part
-fixed_front : (static : Option ValueType) (a b : Option (List ℕ)) (r s : List ℕ) → IsFixed static a → IsFixed static b
+pub fixed_front : (static : Option ValueType) (a b : Option (List ℕ)) (r s : List ℕ) → IsFixed static a → IsFixed static b
     → fixed_bytes static a ++ r ≡ fixed_bytes static b ++ s → (a ≡ b) × (r ≡ s)
 fixed_front None None None r s f g e = (refl, e)
 fixed_front None None (Some y) r s f g e = absurd g
@@ -61,16 +61,16 @@ partition_front static p q t u f g e =
     let same : p ≡ q = λ i. record { key = heads.0 i; fixed = fixed.0 i; rows = rows.0 i } in
     (same, rows.1)
 
-data_front : (types : Types) (ps qs : List Partition) → ArePartitions types ps → ArePartitions types qs
-    → data_bytes types.static_value ps ≡ data_bytes types.static_value qs → ps ≡ qs
-data_front types [] [] f g e = refl
-data_front types [] (q ∷ qs) f g e = cc
-data_front types (p ∷ ps) [] f g e = cc
-data_front types (p ∷ ps) (q ∷ qs) f g e =
-    let first = partition_front types.static_value p q (data_bytes types.static_value ps) (data_bytes types.static_value qs) f.1 g.1 e in
+data_front : (columns : Columns) (ps qs : List Partition) → ArePartitions columns ps → ArePartitions columns qs
+    → data_bytes columns.static_value ps ≡ data_bytes columns.static_value qs → ps ≡ qs
+data_front columns [] [] f g e = refl
+data_front columns [] (q ∷ qs) f g e = cc
+data_front columns (p ∷ ps) [] f g e = cc
+data_front columns (p ∷ ps) (q ∷ qs) f g e =
+    let first = partition_front columns.static_value p q (data_bytes columns.static_value ps) (data_bytes columns.static_value qs) f.1 g.1 e in
     let same : p ≡ q = first.0 in
-    let rest : ps ≡ qs = data_front types ps qs f.3 g.3 first.1 in
+    let rest : ps ≡ qs = data_front columns ps qs f.3 g.3 first.1 in
     λ i. same i ∷ rest i
 
-pub listing_unique : (types : Types) (bytes : List ℕ) (ps qs : List Partition) → Lists types bytes ps → Lists types bytes qs → ps ≡ qs
-listing_unique types bytes ps qs (e, f) (d, g) = data_front types ps qs f g (sym e ∙ d)
+pub listing_unique : (columns : Columns) (bytes : List ℕ) (ps qs : List Partition) → Lists columns bytes ps → Lists columns bytes qs → ps ≡ qs
+listing_unique columns bytes ps qs (e, f) (d, g) = data_front columns ps qs f g (sym e ∙ d)

@@ -1,5 +1,3 @@
-pub mod Types
-pub mod Strings
 pub mod Listing
 pub mod Reading
 pub mod Parsing

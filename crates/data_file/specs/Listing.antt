@@ -1,8 +1,8 @@
 -- The bytes of a data file, and the partitions and rows that they list. The layout is this project's own.
 use Rattle.std.specs.Prelude.{◌≡◌, ℕ, ◌/◌, ◌%◌, List, [], ◌∷◌, ◌++◌, length, Option, None, Some}
-use Rattle.data_file.specs.Types.{Types}
+use Rattle.key_types.specs.Columns.{Columns, IsValueOf}
 use Rattle.key_types.specs.declared.schema.ValueType.{ValueType}
-use Rattle.data_file.specs.Strings.{IsStringOf, IsValueOf}
+use Rattle.key_decode.specs.Strings.{IsStringOf}
 
 -- a row of a partition: the string of its clustering components, and its value
 pub record Row : Type 0 where
@@ -33,11 +33,15 @@ row_bytes clustering value = 1 ∷ (counted clustering ++ counted value)
 abbrev pub end_bytes : List ℕ
 end_bytes = 0 ∷ []
 
--- the static part, which a table with a static type has behind each head
+-- a static part: no value, or one
+abbrev pub static_bytes : Option (List ℕ) → List ℕ
+static_bytes None = 0 ∷ []
+static_bytes (Some value) = 1 ∷ counted value
+
+-- a table with a static type has a static part behind each head
 abbrev pub fixed_bytes : Option ValueType → Option (List ℕ) → List ℕ
 fixed_bytes None fixed = []
-fixed_bytes (Some type) None = 0 ∷ []
-fixed_bytes (Some type) (Some value) = 1 ∷ counted value
+fixed_bytes (Some type) fixed = static_bytes fixed
 
 -- rows, one behind the other
 abbrev pub rows_bytes : List Row → List ℕ
@@ -63,24 +67,24 @@ IsFixed None (Some value) = ⊥
 IsFixed (Some type) (Some value) = IsValueOf type value
 
 -- the row is one of the table
-abbrev pub IsRow : Types → List ℕ → List ℕ → Type 0
-IsRow types clustering value = IsStringOf types.clustering clustering × IsValueOf types.value value
+abbrev pub IsRow : Columns → List ℕ → List ℕ → Type 0
+IsRow columns clustering value = IsStringOf columns.clustering clustering × IsValueOf columns.value value
 
-abbrev pub AreRows : Types → List Row → Type 0
-AreRows types [] = Unit {0}
-AreRows types (row ∷ rows) = IsRow types row.clustering row.value × AreRows types rows
+abbrev pub AreRows : Columns → List Row → Type 0
+AreRows columns [] = Unit {0}
+AreRows columns (row ∷ rows) = IsRow columns row.clustering row.value × AreRows columns rows
 
-abbrev pub ArePartitions : Types → List Partition → Type 0
-ArePartitions types [] = Unit {0}
-ArePartitions types (partition ∷ partitions) =
-    IsStringOf types.partition partition.key × IsFixed types.static_value partition.fixed × AreRows types partition.rows
-    × ArePartitions types partitions
+abbrev pub ArePartitions : Columns → List Partition → Type 0
+ArePartitions columns [] = Unit {0}
+ArePartitions columns (partition ∷ partitions) =
+    IsStringOf columns.partition partition.key × IsFixed columns.static_value partition.fixed × AreRows columns partition.rows
+    × ArePartitions columns partitions
 
 -- ---- the listing
 
 -- the bytes of a data file list these partitions
-abbrev pub Lists : Types → List ℕ → List Partition → Type 0
-Lists types bytes partitions = (bytes ≡ data_bytes types.static_value partitions) × ArePartitions types partitions
+abbrev pub Lists : Columns → List ℕ → List Partition → Type 0
+Lists columns bytes partitions = (bytes ≡ data_bytes columns.static_value partitions) × ArePartitions columns partitions
 
 -- where the partition behind these stands in the file
 abbrev pub position_behind : Option ValueType → List Partition → ℕ

@@ -1,6 +1,6 @@
 -- What bytes begin with before their strings are looked at: only private contracts cite it.
-use Rattle.std.specs.Prelude.{◌≡◌, ℕ, ◌<◌, ◌≤◌, ◌^◌, List, ◌++◌, length}
-use Rattle.data_file.specs.Listing.{counted, row_bytes}
+use Rattle.std.specs.Prelude.{◌≡◌, ℕ, ◌<◌, ◌≤◌, ◌^◌, List, ◌++◌, length, Option, IfSome}
+use Rattle.data_file.specs.Listing.{counted, row_bytes, static_bytes}
 use Rattle.data_file.specs.Reading.{BeginsEnd}
 
 -- the bytes end before the counted ones do
@@ -15,3 +15,11 @@ IsFrame bytes clustering value =
 -- neither a row whose clustering has at most 1,024 bytes nor an end begins here
 abbrev pub NoFrame : List ℕ → Type 0
 NoFrame bytes = ((clustering value : List ℕ) → length clustering ≤ 1024 → IsFrame bytes clustering value → ⊥) × (BeginsEnd bytes → ⊥)
+
+-- the bytes begin with a static part of this value, as far as its length says
+abbrev pub IsFixedFrame : List ℕ → Option (List ℕ) → Type 0
+IsFixedFrame bytes value = IfSome value (λ v. length v < 2 ^ 16) × ((rest : List ℕ) × (bytes ≡ static_bytes value ++ rest))
+
+-- no static part begins here
+abbrev pub NoFixedFrame : List ℕ → Type 0
+NoFixedFrame bytes = (value : Option (List ℕ)) → IsFixedFrame bytes value → ⊥

@@ -1,12 +1,12 @@
 ghost use Rattle.std.specs.Prelude.{◌≡◌, ◌<◌, ◌≤◌, ◌+◌, ◌++◌, ◌^◌, List, ℕ, length, IfOk, IfSome, IsNone, MatchOption, Err, ◌∷◌, true, false};
-ghost use Rattle.key_types.specs.Kinds.{kinds_of, more, int, end};
-ghost use Rattle.data_file.specs.Types.{types_of};
+ghost use Rattle.key_types.specs.Columns.{columns_of};
 ghost use Rattle.data_file.specs.Listing.{counted};
 ghost use Rattle.data_file.specs.Reading.{BeginsEnd, BeginsHead, BeginsRow, IsRowAt, NoHead, NoRow};
 ghost use Rattle.data_file.specs.Parsing.{IsCutOff, IsFrame, NoFrame};
 
 use crate::reading::{DataRow, RowAt};
-use crate::strings::{is_partition_string, is_row};
+use crate::strings::is_row;
+use key_decode::is_partition_string;
 use key_types::{ByteList, NoMemory, Schema};
 use std::alloc::Global;
 
@@ -33,7 +33,7 @@ impl From<NoMemory> for ParseRow {
 }
 
 /// The bytes that a number in two bytes counts, and what stands behind them; `None` where they are cut off.
-fn counted(bytes: &[u8]) -> Option<(&[u8], &[u8])>
+pub fn counted(bytes: &[u8]) -> Option<(&[u8], &[u8])>
     ensures some { IfSome result (λ p. (length p.0.now < 2 ^ 16) × (bytes.now ≡ counted p.0.now ++ p.1.now)) }
     ensures none { IsNone result → IsCutOff bytes.now × (length bytes.now < 65537) }
 {
@@ -52,9 +52,8 @@ fn counted(bytes: &[u8]) -> Option<(&[u8], &[u8])>
 
 /// The string of the partition whose head the bytes begin with, where they begin with one.
 pub fn head_in<'b>(schema: &Schema, bytes: &'b [u8]) -> Option<&'b [u8]>
-    requires { kinds_of schema.now.partition ≡ more int end }
-    ensures some { IfSome result (λ key. BeginsHead (types_of schema.now) bytes.now key.now) }
-    ensures none { IsNone result → NoHead (types_of schema.now) bytes.now }
+    ensures some { IfSome result (λ key. BeginsHead (columns_of schema.now) bytes.now key.now) }
+    ensures none { IsNone result → NoHead (columns_of schema.now) bytes.now }
 {
     let (key, _) = counted(bytes)?;
     if !is_partition_string(schema, key) {
@@ -123,11 +122,10 @@ pub struct RowParts<'b> {
 /// The row with which the bytes of a data file begin, behind a head or a row; `None` for the end of a partition.
 /// It takes no memory.
 pub fn row_in<'b>(schema: &Schema, bytes: &'b [u8]) -> Result<Option<RowParts<'b>>, ParseRow>
-    requires { kinds_of schema.now.clustering ≡ end }
     ensures row { IfOk result (λ found. MatchOption found (BeginsEnd bytes.now)
-        (λ row. BeginsRow (types_of schema.now) bytes.now row.clustering.now row.value.now)) }
-    ensures short { result ≡ Err ParseRow.Short → NoRow (types_of schema.now) bytes.now × (length bytes.now < 66564) }
-    ensures bad { result ≡ Err ParseRow.Bad → (more : List ℕ) → NoRow (types_of schema.now) (bytes.now ++ more) }
+        (λ row. BeginsRow (columns_of schema.now) bytes.now row.clustering.now row.value.now)) }
+    ensures short { result ≡ Err ParseRow.Short → NoRow (columns_of schema.now) bytes.now × (length bytes.now < 66564) }
+    ensures bad { result ≡ Err ParseRow.Bad → (more : List ℕ) → NoRow (columns_of schema.now) (bytes.now ++ more) }
     ensures memory { ¬ (result ≡ Err ParseRow.NoMemory) }
 {
     let found = match frame(bytes) {
@@ -145,11 +143,10 @@ pub fn row_in<'b>(schema: &Schema, bytes: &'b [u8]) -> Result<Option<RowParts<'b
 
 /// The row or the end of a partition with which the bytes of a data file begin, from the position `at` on.
 pub fn parse_row(alloc: Global, schema: &Schema, bytes: &[u8], at: u64) -> Result<RowAt, ParseRow>
-    requires strings { kinds_of schema.now.clustering ≡ end }
     requires place { at < 2 ^ 62 }
-    ensures row { IfOk result (IsRowAt (types_of schema.now) bytes.now at) }
-    ensures short { result ≡ Err ParseRow.Short → NoRow (types_of schema.now) bytes.now × (length bytes.now < 66564) }
-    ensures bad { result ≡ Err ParseRow.Bad → (more : List ℕ) → NoRow (types_of schema.now) (bytes.now ++ more) }
+    ensures row { IfOk result (IsRowAt (columns_of schema.now) bytes.now at) }
+    ensures short { result ≡ Err ParseRow.Short → NoRow (columns_of schema.now) bytes.now × (length bytes.now < 66564) }
+    ensures bad { result ≡ Err ParseRow.Bad → (more : List ℕ) → NoRow (columns_of schema.now) (bytes.now ++ more) }
 {
     let found = match row_in(schema, bytes) {
         Ok(found) => found,

@@ -1,18 +1,18 @@
-ghost use Rattle.std.specs.Prelude.{◌≡◌, ◌<◌, ◌≤◌, ◌+◌, ◌^◌, length, drop, ◌++◌, IfErr, IfOk, IfSome, IsNone, IsTrue, ◌⊎◌, Err, List, ℕ};
+ghost use Rattle.std.specs.Prelude.{◌≡◌, ◌<◌, ◌≤◌, ◌+◌, ◌^◌, length, drop, ◌++◌, IfErr, IfOk, IfSome, IsNone, IsSome, IsTrue, ◌⊎◌, Err, List, ℕ};
 ghost use Rattle.outside.specs.Causes.{Rose};
 ghost use Rattle.outside.specs.Files.{bytes_of};
-ghost use Rattle.key_types.specs.Kinds.{kinds_of, more, int, end};
-ghost use Rattle.data_file.specs.Types.{types_of};
-ghost use Rattle.data_file.specs.Answers.{damage_at, IsHead, IsRowOrEnd, IsStop};
+ghost use Rattle.key_types.specs.Columns.{columns_of};
+ghost use Rattle.data_file.specs.Answers.{damage_at, IsHead, IsRowOrEnd, IsStaticPart, IsStop};
 ghost use Rattle.data_file.specs.Held.{IsFront, IsRest};
 
+use crate::fixed::parse_fixed;
 use crate::parse::{ParseRow, head_in, parse_row};
 use bti_nodes::{Cause, Damage};
 use key_types::{ByteList, KeyBytes, NoMemory, Schema, ValueBytes};
 use outside::{Failed, FileId, Part, Store};
 use std::alloc::Global;
 
-/// The head of a partition: its string, and the place behind the head, where its rows begin.
+/// The head of a partition: its string, and the place behind the head, where its static part begins or its rows do.
 #[derive(Debug, Drop)]
 pub struct Head {
     pub partition: KeyBytes,
@@ -24,6 +24,13 @@ pub struct Head {
 pub struct DataRow {
     pub clustering: KeyBytes,
     pub value: ValueBytes,
+    pub end: u64,
+}
+
+/// A static part: its value, where it has one, and the place behind it.
+#[derive(Debug, Drop)]
+pub struct Fixed {
+    pub value: Option<ValueBytes>,
     pub end: u64,
 }
 
@@ -110,9 +117,8 @@ pub fn read_partition_head<K: Store>(
     at: u64,
     store: &mut K,
 ) -> Result<Head, DataError>
-    requires strings { kinds_of schema.now.partition ≡ more int end }
     requires place { at < 2 ^ 62 }
-    ensures head { IfSome (K.files store.old) (λ m. IsHead (types_of schema.now) (drop at (bytes_of m file)) at result) }
+    ensures head { IfSome (K.files store.old) (λ m. IsHead (columns_of schema.now) (drop at (bytes_of m file)) at result) }
     ensures files { K.files store.new ≡ K.files store.old }
     ensures reads { K.reads store.new ≤ K.reads store.old + 2 }
     ensures later { K.faults store.old ≤ K.faults store.new }
@@ -125,9 +131,8 @@ pub fn read_partition_head<K: Store>(
 
 /// The head with which the bytes begin.
 fn head_of(alloc: Global, schema: &Schema, bytes: &[u8], at: u64) -> Result<Head, DataError>
-    requires strings { kinds_of schema.now.partition ≡ more int end }
     requires place { at < 2 ^ 62 }
-    ensures told { IsHead (types_of schema.now) bytes.now at result }
+    ensures told { IsHead (columns_of schema.now) bytes.now at result }
     ensures fault { ¬ (result ≡ Err DataError.StoreFault) }
 {
     let Some(key) = head_in(schema, bytes) else {
@@ -142,9 +147,8 @@ fn head_of(alloc: Global, schema: &Schema, bytes: &[u8], at: u64) -> Result<Head
 /// What the bytes tell of the row or the end with which they and whatever follows them begin; `None` where they
 /// are too few.
 fn early(alloc: Global, schema: &Schema, bytes: &[u8], at: u64) -> Option<Result<RowAt, DataError>>
-    requires strings { kinds_of schema.now.clustering ≡ end }
     requires place { at < 2 ^ 62 }
-    ensures told { IfSome result (λ found. (rest : List ℕ) → IsRowOrEnd (types_of schema.now) (bytes.now ++ rest) at found) }
+    ensures told { IfSome result (λ found. (rest : List ℕ) → IsRowOrEnd (columns_of schema.now) (bytes.now ++ rest) at found) }
     ensures fault { IfSome result (λ found. ¬ (found ≡ Err DataError.StoreFault)) }
     ensures few { IsNone result → length bytes.now < 66564 }
 {
@@ -158,9 +162,8 @@ fn early(alloc: Global, schema: &Schema, bytes: &[u8], at: u64) -> Option<Result
 
 /// What the bytes tell, where nothing follows them.
 fn late(alloc: Global, schema: &Schema, bytes: &[u8], at: u64) -> Result<RowAt, DataError>
-    requires strings { kinds_of schema.now.clustering ≡ end }
     requires place { at < 2 ^ 62 }
-    ensures told { IsRowOrEnd (types_of schema.now) bytes.now at result }
+    ensures told { IsRowOrEnd (columns_of schema.now) bytes.now at result }
     ensures fault { ¬ (result ≡ Err DataError.StoreFault) }
 {
     match parse_row(alloc, schema, bytes, at) {
@@ -179,9 +182,8 @@ pub fn read_row<K: Store>(
     at: u64,
     store: &mut K,
 ) -> Result<RowAt, DataError>
-    requires strings { kinds_of schema.now.clustering ≡ end }
     requires place { at < 2 ^ 62 }
-    ensures row { IfSome (K.files store.old) (λ m. IsRowOrEnd (types_of schema.now) (drop at (bytes_of m file)) at result) }
+    ensures row { IfSome (K.files store.old) (λ m. IsRowOrEnd (columns_of schema.now) (drop at (bytes_of m file)) at result) }
     ensures files { K.files store.new ≡ K.files store.old }
     ensures reads { K.reads store.new ≤ K.reads store.old + 18 }
     ensures later { K.faults store.old ≤ K.faults store.new }
@@ -196,4 +198,69 @@ pub fn read_row<K: Store>(
         ended = read_more(file, at, &mut held, store)?;
     }
     late(alloc, schema, held.as_slice(), at)
+}
+
+/// What the bytes tell of the static part with which they and whatever follows them begin; `None` where they are too
+/// few.
+fn early_fixed(
+    alloc: Global,
+    schema: &Schema,
+    bytes: &[u8],
+    at: u64,
+) -> Option<Result<Fixed, DataError>>
+    requires fixed { IsSome schema.now.static_value }
+    requires place { at < 2 ^ 62 }
+    ensures told { IfSome result (λ found. (rest : List ℕ) → IsStaticPart (columns_of schema.now) (bytes.now ++ rest) at found) }
+    ensures fault { IfSome result (λ found. ¬ (found ≡ Err DataError.StoreFault)) }
+    ensures few { IsNone result → length bytes.now < 65538 }
+{
+    match parse_fixed(alloc, schema, bytes, at) {
+        Ok(fixed) => Some(Ok(fixed)),
+        Err(ParseRow::Short) => None,
+        Err(ParseRow::Bad) => Some(Err(damaged(at, Cause::BadRow))),
+        Err(ParseRow::NoMemory) => Some(Err(DataError::NoMemory)),
+    }
+}
+
+/// What the bytes tell of it, where nothing follows them.
+fn late_fixed(alloc: Global, schema: &Schema, bytes: &[u8], at: u64) -> Result<Fixed, DataError>
+    requires fixed { IsSome schema.now.static_value }
+    requires place { at < 2 ^ 62 }
+    ensures told { IsStaticPart (columns_of schema.now) bytes.now at result }
+    ensures fault { ¬ (result ≡ Err DataError.StoreFault) }
+{
+    match parse_fixed(alloc, schema, bytes, at) {
+        Ok(fixed) => Ok(fixed),
+        Err(ParseRow::Short) => Err(damaged(at, Cause::BadRow)),
+        Err(ParseRow::Bad) => Err(damaged(at, Cause::BadRow)),
+        Err(ParseRow::NoMemory) => Err(DataError::NoMemory),
+    }
+}
+
+/// The static part at a position of the file, in a table with a static type. Damage is told exactly where none begins
+/// there.
+pub fn read_fixed<K: Store>(
+    alloc: Global,
+    schema: &Schema,
+    file: FileId,
+    at: u64,
+    store: &mut K,
+) -> Result<Fixed, DataError>
+    requires fixed { IsSome schema.now.static_value }
+    requires place { at < 2 ^ 62 }
+    ensures part { IfSome (K.files store.old) (λ m. IsStaticPart (columns_of schema.now) (drop at (bytes_of m file)) at result) }
+    ensures files { K.files store.new ≡ K.files store.old }
+    ensures reads { K.reads store.new ≤ K.reads store.old + 18 }
+    ensures later { K.faults store.old ≤ K.faults store.new }
+    ensures fault { result ≡ Err DataError.StoreFault → Rose (K.faults store.old) (K.faults store.new) }
+{
+    let mut held = ByteList::new(alloc);
+    let mut ended = false;
+    'pages: while !ended {
+        if let Some(found) = early_fixed(alloc, schema, held.as_slice(), at) {
+            return found;
+        }
+        ended = read_more(file, at, &mut held, store)?;
+    }
+    late_fixed(alloc, schema, held.as_slice(), at)
 }

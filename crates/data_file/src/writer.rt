@@ -1,6 +1,6 @@
-ghost use Rattle.std.specs.Prelude.{◌≡◌, ◌<◌, ◌≤◌, ◌+◌, ◌++◌, ◌∷◌, ◌^◌, [], length, IfOk, OnOk, Err};
+ghost use Rattle.std.specs.Prelude.{◌≡◌, ◌<◌, ◌≤◌, ◌+◌, ◌++◌, ◌∷◌, ◌^◌, [], length, IfOk, IfSome, OnOk, option_copied, Err};
 ghost use Rattle.outside.specs.Causes.{Rose};
-ghost use Rattle.data_file.specs.Listing.{counted, end_bytes, head_bytes, row_bytes};
+ghost use Rattle.data_file.specs.Listing.{counted, end_bytes, head_bytes, row_bytes, static_bytes};
 ghost use Rattle.data_file.specs.Writing.{Finishes, Puts};
 
 use bti_nodes::PackError;
@@ -76,6 +76,26 @@ impl DataWriter {
         Ok(at)
     }
 
+    /// Writes the static part of the partition that was just begun, in a table with a static type, and answers the
+    /// position behind it.
+    pub fn fixed<K: Store>(&mut self, value: Option<&[u8]>, store: &mut K) -> Result<u64, PackError>
+        requires value { IfSome value (λ v. length v.now < 2 ^ 16) }
+        requires place { self.old.position < 2 ^ 60 }
+        ensures behind { IfOk result (λ behind. behind ≡ self.old.position + length (static_bytes (option_copied value.entry))) }
+        ensures position { OnOk result (self.new.position ≡ self.old.position + length (static_bytes (option_copied value.entry))) }
+        ensures file { self.new.file ≡ self.old.file }
+        ensures written { Puts (K.files store.old) (K.files store.new) self.old.file result (self.old.pending ++ static_bytes (option_copied value.entry)) self.new.pending }
+        ensures reads { K.reads store.new ≡ K.reads store.old }
+        ensures later { K.faults store.old ≤ K.faults store.new }
+        ensures fault { result ≡ Err PackError.StoreFault → Rose (K.faults store.old) (K.faults store.new) }
+    {
+        let behind = self.position + fixed_length(value);
+        put_fixed(&mut self.pending, value)?;
+        self.position = behind;
+        put_out(self.file, &mut self.pending, BLOCK, store)?;
+        Ok(behind)
+    }
+
     /// Writes a row of the partition that was begun last, and answers the position behind it.
     pub fn row<K: Store>(
         &mut self,
@@ -146,6 +166,31 @@ fn put_row(out: &mut ByteList, clustering: &[u8], value: &[u8]) -> Result<(), No
     out.push(1)?;
     put_counted(out, clustering)?;
     put_counted(out, value)
+}
+
+fn put_fixed(out: &mut ByteList, value: Option<&[u8]>) -> Result<(), NoMemory>
+    requires { IfSome value (λ v. length v.now < 2 ^ 16) }
+    ensures { OnOk result (out.new ≡ out.old ++ static_bytes (option_copied value.entry)) }
+{
+    match value {
+        Some(value) => {
+            out.push(1)?;
+            put_counted(out, value)
+        }
+        None => out.push(0),
+    }
+}
+
+/// How many bytes a static part has.
+fn fixed_length(value: Option<&[u8]>) -> u64
+    requires { IfSome value (λ v. length v.now < 2 ^ 16) }
+    ensures length { result ≡ length (static_bytes (option_copied value.entry)) }
+    ensures most { result ≤ 65538 }
+{
+    match value {
+        Some(value) => 3 + value.len() as u64,
+        None => 1,
+    }
 }
 
 /// Appends the pending bytes, where there are at least so many.

@@ -17,7 +17,7 @@ use Rattle.key_decode.proofs.Link.{to_bytes, bytes_front}
 
 -- ---- bytes and their complements
 
-other : (t u : Bool) (bs : List ℕ) → u ≡ not t → turned (seen t bs) ≡ seen u bs
+pub other : (t u : Bool) (bs : List ℕ) → u ≡ not t → turned (seen t bs) ≡ seen u bs
 other true u bs e = all_twice bs ∙ ap (λ x. seen x bs) (sym e)
 other false u bs e = ap (λ x. seen x bs) (sym e)
 

@@ -8,4 +8,8 @@ pub mod Bigints
 pub mod Link
 pub mod Answered
 pub mod Flipped
+pub mod Cut
+pub mod Plain
 pub mod Whole
+pub mod Passing
+pub mod Known

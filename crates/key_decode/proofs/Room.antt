@@ -1,8 +1,6 @@
 -- Room for a number with one byte more.
-use Rattle.std.proofs.Common.{◌≡◌, ℕ, zero, suc, ◌+◌, ◌*◌, ◌^◌, ◌<◌, ◌≤◌, List, ◌∷◌, Result, Ok, Err, arith, sym, ◌∙◌, ap}
-use Rattle.std.specs.Prelude.{IfOk}
+use Rattle.std.proofs.Common.{◌≡◌, ℕ, zero, suc, ◌+◌, ◌*◌, ◌^◌, ◌<◌, ◌≤◌, List, ◌∷◌, arith, sym, ◌∙◌, ap}
 use Rattle.std.proofs.lemmas.Nat.{mul-le}
-use Rattle.grammar.specs.declared.stop.Stop.{Stop}
 use Rattle.key_decode.specs.Reading.{number_at}
 use Rattle.byte_comparable.proofs.Numbers.{positive}
 
@@ -21,10 +19,6 @@ room n c k b e h w =
     let less : (n * 256 + b + 1) * 256 ^ k ≤ ((n + 1) * 256) * 256 ^ k = mul-le (n * 256 + b + 1) (256 ^ k) ((n + 1) * 256) (256 ^ k) (omega arith) (omega arith) in
     let one : ((n + 1) * 256) * 1 ≤ ((n + 1) * 256) * 256 ^ k = mul-le ((n + 1) * 256) 1 ((n + 1) * 256) (256 ^ k) (omega arith) (let p = positive k in omega arith) in
     record { fits = omega arith; next = omega arith; within = omega arith }
-
-pub ok_within : {A : Type 0} (f : A → ℕ) (result : Result A Stop) (low high : ℕ) → IfOk result (λ x. f x < low) → low ≤ high → IfOk result (λ x. f x < high)
-ok_within f (Ok x) low high h l = omega arith
-ok_within f (Err e) low high h l = tt
 
 pub number_next : (c k n b : ℕ) (all rest : List ℕ) → c ≡ suc k → all ≡ b ∷ rest → number_at k (n * 256 + b) rest ≡ number_at c n all
 number_next c k n b all rest e l = sym (ap (λ x. number_at x n all) e ∙ ap (number_at (suc k) n) l)

@@ -1,8 +1,8 @@
 -- A reading of the complement of the bytes.
-use Rattle.std.proofs.Common.{◌≡◌, ℕ, ◌<◌, List, [], ◌∷◌, ◌++◌, length, Result, Ok, Err, arith, refl, sym, ◌∙◌, ap, subst}
+use Rattle.std.proofs.Common.{◌≡◌, ℕ, ◌<◌, Bool, true, false, List, [], ◌∷◌, ◌++◌, length, Result, Ok, Err, arith, refl, sym, ◌∙◌, ap, subst}
 use Rattle.std.proofs.lemmas.Bool.Decides.{nat_tests}
 use Rattle.grammar.specs.Exact.{Read, Exact, StopsAt, Begins, AreBytes}
-use Rattle.key_decode.specs.Reading.{turn, turned, back, turn_read}
+use Rattle.key_decode.specs.Reading.{turn, turned, seen, back, turn_read}
 
 abbrev pub Turned : {A : Type 0} → (A → List ℕ → Type 0) → A → List ℕ → Type 0
 Turned Is a bs = Is a (turned bs)
@@ -28,6 +28,10 @@ both (x ∷ xs) ys = ap (λ l. turn x ∷ l) (both xs ys)
 pub same_length : (bs : List ℕ) → length (turned bs) ≡ length bs
 same_length [] = refl
 same_length (b ∷ bs) = let p = same_length bs in omega arith
+
+pub seen_length : (t : Bool) (bs : List ℕ) → length (seen t bs) ≡ length bs
+seen_length true bs = same_length bs
+seen_length false bs = refl
 
 module _ {A : Type 0} (r : Read A) (Is : A → List ℕ → Type 0) (follow : A → ℕ → Type 0) (one : Exact r Is follow) where
   ok_by : (x : Result (A × List ℕ) ℕ) (a : A) (rest : List ℕ) → back x ≡ Ok (a, rest) → x ≡ Ok (a, turned rest)

@@ -1,3 +1,5 @@
 pub mod Reading
 pub mod Shapes
 pub mod Texts
+pub mod Strings
+pub mod Passing

@@ -1,12 +1,20 @@
-ghost use Rattle.std.specs.Prelude.{◌≡◌, ◌≤◌, ◌<◌, ◌+◌, ◌*◌, ◌^◌, [], ◌∷◌, length, IfOk, IfErr, ⊤, not};
+ghost use Rattle.std.specs.Prelude.{◌≡◌, ◌≤◌, ◌<◌, ◌+◌, ◌*◌, ◌^◌, [], ◌∷◌, length, Ok, IfOk, IfErr, ⊤, not};
 ghost use Rattle.grammar.specs.Code.{Gives};
 ghost use Rattle.grammar.specs.Reading.{literal};
-ghost use Rattle.grammar.specs.declared.stop.Stop.TheVariants.{At};
+ghost use Rattle.grammar.specs.declared.stop.Stop.TheVariants.{At, Memory};
 ghost use Rattle.key_decode.specs.Reading.{seen, byte_from, number_at, count_behind, base, least_second, second_at, third_at, nine_at, long_at, big_at, signed_at, truth_at};
 ghost use Rattle.key_types.specs.Kinds.{value_of};
 
 use grammar::Stop;
 use key_types::Value;
+
+/// A byte as it stands, or its complement.
+pub fn seen_byte(turned: bool, byte: u8) -> u8
+    ensures seen { seen turned (byte ∷ []) ≡ result ∷ [] }
+    ensures byte { result < 256 }
+{
+    if turned { 255 - byte } else { byte }
+}
 
 /// The next byte, as it stands or its complement, and the bytes behind it.
 pub fn next_byte(turned: bool, bytes: &[u8]) -> Result<(u8, &[u8]), Stop>
@@ -17,7 +25,7 @@ pub fn next_byte(turned: bool, bytes: &[u8]) -> Result<(u8, &[u8]), Stop>
 {
     match bytes {
         [] => Err(Stop::At(0)),
-        [byte, rest @ ..] => Ok((if turned { 255 - *byte } else { *byte }, rest)),
+        [byte, rest @ ..] => Ok((seen_byte(turned, *byte), rest)),
     }
 }
 
@@ -33,6 +41,7 @@ fn read_byte_from(turned: bool, low: u8, bytes: &[u8]) -> Result<(u8, &[u8]), St
     ensures from { IfOk result (λ x. low ≤ x.0) }
     ensures byte { IfOk result (λ x. x.0 < 256) }
     ensures gives { Gives (λ x. (x.0, seen turned x.1.now)) result (byte_from low (seen turned bytes.now)) }
+    ensures memory { IfErr result (λ e. ¬ (e ≡ Memory)) }
 {
     let (byte, rest) = next_byte(turned, bytes)?;
     if byte < low {
@@ -43,7 +52,9 @@ fn read_byte_from(turned: bool, low: u8, bytes: &[u8]) -> Result<(u8, &[u8]), St
 
 /// This byte.
 pub fn read_sign(turned: bool, sign: u8, bytes: &[u8]) -> Result<&[u8], Stop>
-    ensures { Gives (λ x. (tt, seen turned x.now)) result (literal (sign ∷ []) (seen turned bytes.now)) }
+    ensures gives { Gives (λ x. (tt, seen turned x.now)) result (literal (sign ∷ []) (seen turned bytes.now)) }
+    ensures shorter { IfOk result (λ x. length x.now < length bytes.now) }
+    ensures memory { IfErr result (λ e. ¬ (e ≡ Memory)) }
 {
     let (byte, rest) = next_byte(turned, bytes)?;
     if byte != sign {
@@ -52,17 +63,30 @@ pub fn read_sign(turned: bool, sign: u8, bytes: &[u8]) -> Result<&[u8], Stop>
     Ok(rest)
 }
 
+/// The number that these bytes make as the further digits of another.
+fn with_digits(turned: bool, number: u64, digits: &[u8]) -> u64
+    requires { (number + 1) * 256 ^ length digits.now ≤ 2 ^ 64 }
+    ensures value { number_at (length digits.now) number (seen turned digits.now) ≡ Ok (result, []) }
+    ensures below { result < (number + 1) * 256 ^ length digits.now }
+{
+    let mut number = number;
+    for digit in digits {
+        number = number * 256 + u64::from(seen_byte(turned, *digit));
+    }
+    number
+}
+
 /// A number of so many bytes behind those that were read.
 pub fn read_number(turned: bool, count: u8, number: u64, bytes: &[u8]) -> Result<(u64, &[u8]), Stop>
     requires { (number + 1) * 256 ^ count ≤ 2 ^ 64 }
     ensures gives { Gives (λ x. (x.0, seen turned x.1.now)) result (number_at count number (seen turned bytes.now)) }
     ensures below { IfOk result (λ x. x.0 < (number + 1) * 256 ^ count) }
+    ensures memory { IfErr result (λ e. ¬ (e ≡ Memory)) }
 {
-    if count == 0 {
-        return Ok((number, bytes));
+    match bytes.split_at_checked(usize::from(count)) {
+        Some((digits, rest)) => Ok((with_digits(turned, number, digits), rest)),
+        None => Err(Stop::At(0)),
     }
-    let (byte, rest) = next_byte(turned, bytes)?;
-    read_number(turned, count - 1, number * 256 + u64::from(byte), rest)
 }
 
 /// How many bytes stand behind the first one of a bigint, where they aren't eight.
@@ -108,7 +132,8 @@ fn base_of(count: u8) -> u8
 /// A bigint of nine bytes, behind its second byte.
 fn read_nine(turned: bool, second: u8, bytes: &[u8]) -> Result<(u64, &[u8]), Stop>
     requires { 128 ≤ second }
-    ensures { Gives (λ x. (x.0, seen turned x.1.now)) result (nine_at second (seen turned bytes.now)) }
+    ensures gives { Gives (λ x. (x.0, seen turned x.1.now)) result (nine_at second (seen turned bytes.now)) }
+    ensures memory { IfErr result (λ e. ¬ (e ≡ Memory)) }
 {
     let low = if second == 0x80 { 0x80 } else { 0 };
     let (third, rest) = read_byte_from(turned, low, bytes)?;
@@ -131,7 +156,8 @@ fn read_third(
     requires few { more ≤ 6 }
     requires base { base (more + 1) ≤ first }
     requires near { first < base (more + 1) + 64 }
-    ensures { Gives (λ x. (x.0, seen turned x.1.now)) result (third_at more first second (seen turned bytes.now)) }
+    ensures gives { Gives (λ x. (x.0, seen turned x.1.now)) result (third_at more first second (seen turned bytes.now)) }
+    ensures memory { IfErr result (λ e. ¬ (e ≡ Memory)) }
 {
     if more == 6 && second >= 0x80 {
         return read_nine(turned, second, bytes);
@@ -160,7 +186,8 @@ fn read_second(turned: bool, count: u8, first: u8, bytes: &[u8]) -> Result<(u64,
     requires few { count ≤ 7 }
     requires base { base count ≤ first }
     requires near { first < base count + 64 }
-    ensures { Gives (λ x. (x.0, seen turned x.1.now)) result (second_at count first (seen turned bytes.now)) }
+    ensures gives { Gives (λ x. (x.0, seen turned x.1.now)) result (second_at count first (seen turned bytes.now)) }
+    ensures memory { IfErr result (λ e. ¬ (e ≡ Memory)) }
 {
     if count == 0 {
         return read_number(turned, 0, u64::from(first - 0x80), bytes);
@@ -173,6 +200,7 @@ fn read_second(turned: bool, count: u8, first: u8, bytes: &[u8]) -> Result<(u64,
 fn read_long(turned: bool, bytes: &[u8]) -> Result<(u64, &[u8]), Stop>
     ensures gives { Gives (λ x. (x.0, seen turned x.1.now)) result (long_at (seen turned bytes.now)) }
     ensures below { IfOk result (λ x. x.0 < 2 ^ 63) }
+    ensures memory { IfErr result (λ e. ¬ (e ≡ Memory)) }
 {
     let (first, rest) = read_byte_from(turned, 0x80, bytes)?;
     read_second(turned, count_of(first), first, rest)
@@ -180,7 +208,8 @@ fn read_long(turned: bool, bytes: &[u8]) -> Result<(u64, &[u8]), Stop>
 
 /// A bigint: one below zero is the complement of -1 less the number.
 pub fn read_big(turned: bool, bytes: &[u8]) -> Result<(Value, &[u8]), Stop>
-    ensures { Gives (λ x. (value_of x.0, seen turned x.1.now)) result (big_at (seen turned bytes.now)) }
+    ensures gives { Gives (λ x. (value_of x.0, seen turned x.1.now)) result (big_at (seen turned bytes.now)) }
+    ensures memory { IfErr result (λ e. ¬ (e ≡ Memory)) }
 {
     let (first, _) = next_byte(turned, bytes)?;
     if first >= 0x80 {
@@ -197,7 +226,8 @@ pub fn read_big(turned: bool, bytes: &[u8]) -> Result<(Value, &[u8]), Stop>
 /// A signed number of so many bytes, half of whose numbers are below zero.
 pub fn read_signed(turned: bool, count: u8, half: u32, bytes: &[u8]) -> Result<(Value, &[u8]), Stop>
     requires { count ≤ 4 }
-    ensures { Gives (λ x. (value_of x.0, seen turned x.1.now)) result (signed_at count half (seen turned bytes.now)) }
+    ensures gives { Gives (λ x. (value_of x.0, seen turned x.1.now)) result (signed_at count half (seen turned bytes.now)) }
+    ensures memory { IfErr result (λ e. ¬ (e ≡ Memory)) }
 {
     let (number, rest) = read_number(turned, count, 0, bytes)?;
     Ok((Value::Number(number as i64 - i64::from(half)), rest))
@@ -205,7 +235,8 @@ pub fn read_signed(turned: bool, count: u8, half: u32, bytes: &[u8]) -> Result<(
 
 /// A truth: 0 or 1.
 pub fn read_truth(turned: bool, bytes: &[u8]) -> Result<(Value, &[u8]), Stop>
-    ensures { Gives (λ x. (value_of x.0, seen turned x.1.now)) result (truth_at (seen turned bytes.now)) }
+    ensures gives { Gives (λ x. (value_of x.0, seen turned x.1.now)) result (truth_at (seen turned bytes.now)) }
+    ensures memory { IfErr result (λ e. ¬ (e ≡ Memory)) }
 {
     match next_byte(turned, bytes)? {
         (0, rest) => Ok((Value::Truth(false), rest)),

@@ -1,9 +1,9 @@
 ghost use Rattle.std.specs.Prelude.{◌≡◌, IfOk};
-ghost use Rattle.key_types.specs.Kinds.{kinds_of, more, end, int};
+ghost use Rattle.key_types.specs.Kinds.{kind_of, kinds_of, more, end, int, big, text, blob, boolean, tuple, reversed};
 
 use super::*;
 use byte_comparable::{clustering_string, partition_string};
-use key_types::{ColType, Schema, TypeList, Value, ValueType};
+use key_types::{ByteList, ColType, Schema, TypeList, Value, ValueType};
 use std::alloc::Global;
 use std::process::Abort;
 use std::test::Fail;
@@ -82,5 +82,75 @@ fn values_of_bytes(rt: HostRuntime) -> Result<(), Fail> {
         clustering_string(alloc, &schema, &clustering)?.as_slice(),
         bytes.as_slice()
     );
+    Ok(())
+}
+
+/// A row with a value of each type: 1, 'a', the blob 00, true, the tuple of 1, 'b' reversed; 1, 1, 1.
+const EACH_TYPE: [u8; 32] = [
+    0x40, 0x81, 0x40, 0x61, 0x00, 0x40, 0x00, 0xFE, 0x40, 0x01, 0x40, 0x40, 0x80, 0x00, 0x00, 0x01,
+    0x38, 0x40, 0x9D, 0xFF, 0x38, 0x40, 0x81, 0x40, 0x80, 0x01, 0x40, 0x80, 0x00, 0x00, 0x01, 0x38,
+];
+
+/// How many of these bytes are the string of the partition.
+const PARTITION: usize = 21;
+
+fn more(alloc: Global, kind: ColType, kinds: TypeList) -> Result<TypeList, Fail>
+    ensures { IfOk result (λ all. kinds_of all ≡ more (kind_of kind) (kinds_of kinds)) }
+{
+    Ok(TypeList::More(Box::new(alloc, kind)?, Box::new(alloc, kinds)?))
+}
+
+fn partition_types(alloc: Global) -> Result<TypeList, Fail>
+    ensures { IfOk result (λ all. kinds_of all ≡ more big (more text (more blob (more boolean (more (tuple (more int end)) (more (reversed text) end)))))) }
+{
+    let text = Box::new(alloc, ColType::Text)?;
+    let kinds = more(alloc, ColType::Reversed(text), TypeList::End)?;
+    let kinds = more(alloc, ColType::Tuple(one_int(alloc)?), kinds)?;
+    let kinds = more(alloc, ColType::Boolean, kinds)?;
+    let kinds = more(alloc, ColType::Blob, kinds)?;
+    let kinds = more(alloc, ColType::Text, kinds)?;
+    more(alloc, ColType::BigInt, kinds)
+}
+
+fn each_type(alloc: Global) -> Result<Schema, Fail> {
+    let kinds = more(alloc, ColType::SmallInt, one_int(alloc)?)?;
+    Ok(Schema {
+        partition: partition_types(alloc)?,
+        clustering: more(alloc, ColType::TinyInt, kinds)?,
+        value: ValueType::Blob,
+        static_value: None,
+    })
+}
+
+/// Where a row parts that has this partition's string and these bytes behind it; 0 where it is no such string.
+fn split_before(
+    alloc: Global,
+    schema: &Schema,
+    string: &[u8],
+    behind: &[u8],
+) -> Result<usize, Fail> {
+    let mut row = ByteList::new(alloc);
+    row.extend(string)?;
+    row.extend(behind)?;
+    if is_partition_string(schema, string) {
+        Ok(split_row(schema, row.as_slice()))
+    } else {
+        Ok(0)
+    }
+}
+
+#[test]
+fn strings_of_each_type(rt: HostRuntime) -> Result<(), Fail> {
+    let alloc = rt.alloc();
+    let schema = each_type(alloc)?;
+    let (string, behind) = EACH_TYPE.as_slice().split_at(PARTITION);
+    assert_eq!(rt; split_before(alloc, &schema, string, behind)?, PARTITION);
+    assert!(rt; is_clustering_string(&schema, behind));
+    assert!(rt; !is_partition_string(&schema, behind));
+    assert!(rt; !is_partition_string(&schema, &string[..PARTITION - 1]));
+    assert!(rt; !is_partition_string(&schema, EACH_TYPE.as_slice()));
+    let mut bad = EACH_TYPE;
+    bad[3] = 0xFF;
+    assert!(rt; !is_partition_string(&schema, &bad[..PARTITION]));
     Ok(())
 }

@@ -1,5 +1,7 @@
-ghost use Rattle.std.specs.Prelude.{◌≡◌, ◌≢◌, ◌<◌, length, IfOk, IfErr};
+ghost use Rattle.std.specs.Prelude.{◌≡◌, ◌≢◌, ◌<◌, ◌==◌, Ok, length, IfOk, IfErr, IfSome};
+ghost use Rattle.std.specs.List.{position_from};
 ghost use Rattle.grammar.specs.Code.{Gives, Stops};
+ghost use Rattle.grammar.specs.declared.stop.Stop.TheVariants.{Memory};
 ghost use Rattle.key_decode.specs.Texts.{at, gone};
 ghost use Rattle.key_decode.specs.declared.texts.Move.TheVariants.{End};
 ghost use Rattle.key_decode.specs.Reading.{seen, text_at};
@@ -26,10 +28,11 @@ pub enum Move {
 }
 
 /// One move of the reading.
-fn step(place: Place, turned: bool, bytes: &[u8]) -> Result<(Move, &[u8]), Stop>
+pub fn step(place: Place, turned: bool, bytes: &[u8]) -> Result<(Move, &[u8]), Stop>
     ensures ok { IfOk result (λ x. at place (seen turned bytes.now) ≡ gone x.0 (seen turned x.1.now)) }
     ensures err { IfErr result (λ e. Stops e (at place (seen turned bytes.now))) }
     ensures shorter { IfOk result (λ x. x.0 ≢ End → length x.1.now < length bytes.now) }
+    ensures memory { IfErr result (λ e. ¬ (e ≡ Memory)) }
 {
     match (place, next_byte(turned, bytes)) {
         (Place::Plain, Ok((0, rest))) => Ok((Move::Begin, rest)),
@@ -42,8 +45,27 @@ fn step(place: Place, turned: bool, bytes: &[u8]) -> Result<(Move, &[u8]), Stop>
     }
 }
 
-/// A text or a blob, and the bytes behind it.
-pub fn read_text(alloc: Global, turned: bool, bytes: &[u8]) -> Result<(ByteList, &[u8]), Stop>
+/// Where the first zero byte is.
+fn first_zero(bytes: &[u8]) -> Option<usize>
+    ensures first { result ≡ position_from (λ b. b == 0) 0 bytes.now }
+    ensures within { IfSome result (λ at. at < length bytes.now) }
+{
+    bytes.iter().position(|byte| *byte == 0)
+}
+
+/// A text that stands as it is, since it has no zero byte, and the bytes behind it; `None` where none is seen.
+pub fn plain_text(bytes: &[u8]) -> Option<(&[u8], &[u8])>
+    ensures { IfSome result (λ x. text_at bytes.now ≡ Ok (x.0.now, x.1.now)) }
+{
+    let end = first_zero(bytes)?;
+    match step(Place::Behind, false, &bytes[end + 1..]) {
+        Ok((Move::End, rest)) => Some((&bytes[..end], rest)),
+        _ => None,
+    }
+}
+
+/// A text or a blob, which is gathered byte by byte, and the bytes behind it.
+fn read_bytewise(alloc: Global, turned: bool, bytes: &[u8]) -> Result<(ByteList, &[u8]), Stop>
     ensures { Gives (λ x. (x.0, seen turned x.1.now)) result (text_at (seen turned bytes.now)) }
 {
     let mut out = ByteList::new(alloc);
@@ -62,5 +84,18 @@ pub fn read_text(alloc: Global, turned: bool, bytes: &[u8]) -> Result<(ByteList,
             }
         }
         rest = after;
+    }
+}
+
+/// A text or a blob, and the bytes behind it.
+pub fn read_text(alloc: Global, turned: bool, bytes: &[u8]) -> Result<(ByteList, &[u8]), Stop>
+    ensures { Gives (λ x. (x.0, seen turned x.1.now)) result (text_at (seen turned bytes.now)) }
+{
+    if turned {
+        return read_bytewise(alloc, turned, bytes);
+    }
+    match plain_text(bytes) {
+        Some((text, rest)) => Ok((ByteList::from_vec(Vec::from_slice(alloc, text)?), rest)),
+        None => read_bytewise(alloc, turned, bytes),
     }
 }

@@ -10,10 +10,10 @@ use key_types::{ColType, TypeList, Value, ValueList};
 use std::alloc::Global;
 
 /// The byte before each component.
-const SEPARATOR: u8 = 0x40;
+pub const SEPARATOR: u8 = 0x40;
 
 /// The byte behind the last component.
-const TERMINATOR: u8 = 0x38;
+pub const TERMINATOR: u8 = 0x38;
 
 /// A value of the type, whose texts may be any bytes, and the bytes behind it. Behind an odd count of reversed
 /// types the complements of the bytes are read.

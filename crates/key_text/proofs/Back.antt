@@ -9,7 +9,7 @@ use Rattle.key_types.specs.Literals.{literal, list_literal}
 use Rattle.key_text.specs.declared.reading.LiteralError.{LiteralError}
 use Rattle.key_text.specs.declared.reading.LiteralError.TheVariants.{BadToken, OutOfRange, NoMemory}
 use Rattle.key_text.specs.Grammar.{IsLiteral, AreLiterals, AreFurther, IsList, IsText}
-use Rattle.key_text.specs.Outside.{Passes, AnyPasses, FurtherPasses, ItemPasses, ListPasses}
+use Rattle.key_text.specs.Outside.{Passes, AnyPasses, FurtherPasses, ItemPasses, ListPasses, TextPasses}
 use Rattle.key_text.specs.Answers.{Reads, ReadsList}
 use Rattle.key_text.specs.Laws.{IsRead}
 use Rattle.key_text.proofs.Plain.{value_at, list_at, Follow}
@@ -73,6 +73,16 @@ list_misfits ts bs at (left, rest, k, sign, (inside, right, p, last, f), e, same
     let m = misfits ts inside k p in
     (m.0, (left, inside, right, sign, m.1, last, e ∙ ap (λ l. left ++ l) f), m.2)
 
+pub value_outside : (t : Kind) (v : Val) (bs : List ℕ) (at : ℕ) → TextPasses (Passes t) bs at → IsText (IsLiteral t) v bs → Fits t v → ⊥
+value_outside t v bs at (n, rest, k, e, p, same) is h =
+    let m = misfit t rest k p in
+    m.2 (subst (Fits t) (value_one t v m.0 bs is (n, rest, e, m.1)) h)
+
+pub list_outside : (ts : Kinds) (vs : Vals) (bs : List ℕ) (at : ℕ) → TextPasses (ListPasses ts) bs at → IsText (IsList ts) vs bs → EachFits ts vs → ⊥
+list_outside ts vs bs at (n, rest, k, e, p, same) is h =
+    let m = list_misfits ts rest k p in
+    m.2 (subst (EachFits ts) (list_one ts vs m.0 bs is (n, rest, e, m.1)) h)
+
 -- ---- what is written
 
 pub value_text : (t : Kind) (v : Val) → Fits t v → IsText (IsLiteral t) v (literal t v)
@@ -84,15 +94,11 @@ list_text ts vs h = (0, list_literal ts vs, refl, list_written ts vs h)
 pub value_back : (t : Kind) (v : Val) (result : Result Value LiteralError) → Fits t v → Reads t (literal t v) result → IsRead value_of v result
 value_back t v (Ok x) h p = value_one t (value_of x) v (literal t v) p.0 (value_text t v h)
 value_back t v (Err (BadToken at)) h p = p.0 v (value_text t v h)
-value_back t v (Err (OutOfRange at)) h (n, rest, k, e, p, same) =
-    let m = misfit t rest k p in
-    m.2 (subst (Fits t) (value_one t v m.0 (literal t v) (value_text t v h) (n, rest, e, m.1)) h)
+value_back t v (Err (OutOfRange at)) h p = value_outside t v (literal t v) at p (value_text t v h) h
 value_back t v (Err NoMemory) h p = tt
 
 pub list_back : (ts : Kinds) (vs : Vals) (result : Result ValueList LiteralError) → EachFits ts vs → ReadsList ts (list_literal ts vs) result → IsRead values_of vs result
 list_back ts vs (Ok x) h p = list_one ts (values_of x) vs (list_literal ts vs) p.0 (list_text ts vs h)
 list_back ts vs (Err (BadToken at)) h p = p.0 vs (list_text ts vs h)
-list_back ts vs (Err (OutOfRange at)) h (n, rest, k, e, p, same) =
-    let m = list_misfits ts rest k p in
-    m.2 (subst (EachFits ts) (list_one ts vs m.0 (list_literal ts vs) (list_text ts vs h) (n, rest, e, m.1)) h)
+list_back ts vs (Err (OutOfRange at)) h p = list_outside ts vs (list_literal ts vs) at p (list_text ts vs h) h
 list_back ts vs (Err NoMemory) h p = tt

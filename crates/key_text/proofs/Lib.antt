@@ -1,5 +1,6 @@
 pub mod Behind
 pub mod Capped
+pub mod Spans
 pub mod Listed
 pub mod Numbers
 pub mod Quoted

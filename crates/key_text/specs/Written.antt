@@ -1,4 +1,4 @@
--- The row that is written of a key and a value. This project's own.
+-- The row or the static value that is written of a key and a value. This project's own.
 use Rattle.std.specs.Prelude.{ℕ, List, [], ◌++◌, codes}
 use Rattle.key_types.specs.declared.schema.ValueType.{ValueType}
 use Rattle.key_types.specs.declared.schema.ValueType.TheVariants.{Text, Blob}
@@ -26,3 +26,7 @@ equals_literal value bs = codes " = " ++ value_literal value bs
 -- a key, an equals sign, and the value
 abbrev pub row_literal : Kinds → Kinds → ValueType → Vals → Vals → List ℕ → List ℕ
 row_literal ps cs value partition clustering bs = key_literal ps cs partition clustering ++ equals_literal value bs
+
+-- a partition's key, the word `static`, an equals sign, and the value
+abbrev pub static_literal : Kinds → ValueType → Vals → List ℕ → List ℕ
+static_literal ps value partition bs = list_literal ps partition ++ codes " static" ++ equals_literal value bs

@@ -140,6 +140,9 @@ fn rows(rt: HostRuntime) -> Result<(), Fail> {
     let mut out = ByteList::new(alloc);
     write_row(&schema, &partition, &clustering, b"a", &mut out)?;
     assert_eq!(rt; out.as_slice(), b"(1) () = 'a'".as_slice());
+    out.truncate(0);
+    write_static(&schema, ValueType::Blob, &partition, b"a", &mut out)?;
+    assert_eq!(rt; out.as_slice(), b"(1) static = 0x61".as_slice());
     Ok(())
 }
 

@@ -4,8 +4,9 @@ ghost use Rattle.grammar.specs.Code.{Gives};
 ghost use Rattle.grammar.specs.Reading.{literal, ends, mapped, map_read, spaces_at};
 ghost use Rattle.grammar.specs.declared.stop.Stop.TheVariants.{At};
 ghost use Rattle.key_text.specs.Tokens.{is_digit, is_hex, hex_value};
-ghost use Rattle.key_text.specs.Reading.{digits_at, positive_at, zero_at, magnitude_at, number_at, capped, capped_all, quoted_at, quoted_by, behind, text_at, hex_at, pair_by, blob_at, no_end, no_close, closing_at, truth_word_at, truth_at};
+ghost use Rattle.key_text.specs.Reading.{digits_at, positive_at, zero_at, magnitude_at, number_at, capped, capped_all, quoted_at, behind, text_at, hex_at, pair_by, blob_at, no_end, no_close, closing_at, truth_word_at, truth_at};
 
+use crate::quotes::split_quote;
 use grammar::{Stop, further, read_word, skip_spaces};
 use key_types::ByteList;
 use std::alloc::Global;
@@ -101,37 +102,26 @@ pub fn read_number(bytes: &[u8]) -> Result<(bool, u64, &[u8]), Stop>
     }
 }
 
-/// The next byte of a quoted text, and none behind its last.
-fn next_byte(bytes: &[u8]) -> Result<(Option<u8>, &[u8]), Stop>
-    ensures ok { IfOk result (λ x. quoted_at bytes.now ≡ quoted_by x.0 x.1.now) }
-    ensures shorter { IfOk result (λ x. length x.1.now < length bytes.now) }
-    ensures err { IfErr result (λ e. (e ≡ At 0) × (quoted_at bytes.now ≡ Err 0)) }
-{
-    match bytes {
-        [b'\'', b'\'', rest @ ..] => Ok((Some(b'\''), rest)),
-        [b'\'', rest @ ..] => Ok((None, rest)),
-        [b, rest @ ..] => Ok((Some(*b), rest)),
-        [] => Err(Stop::At(0)),
-    }
-}
-
 /// The bytes of a text behind its first quote, up to its last.
-#[tactic(auto, using(crate::proofs::Behind::behind_push))]
+#[tactic(auto, using(crate::proofs::Behind::behind_push, crate::proofs::Behind::behind_more))]
 fn read_quoted(alloc: Global, bytes: &[u8]) -> Result<(ByteList, &[u8]), Stop>
     ensures { Gives (λ x. (x.0, x.1.now)) result (quoted_at bytes.now) }
 {
     let mut out = ByteList::new(alloc);
     let mut rest = bytes;
-    'bytes: loop {
-        let (next, after) = next_byte(rest)?;
-        let Some(byte) = next else {
-            return Ok((out, after));
-        };
-        if out.push(byte).is_err() {
+    'quotes: while let Some((span, after)) = split_quote(rest) {
+        if out.extend(span).is_err() {
             return Err(Stop::Memory);
         }
-        rest = after;
+        let [b'\'', further @ ..] = after else {
+            return Ok((out, after));
+        };
+        if out.push(b'\'').is_err() {
+            return Err(Stop::Memory);
+        }
+        rest = further;
     }
+    Err(Stop::At(0))
 }
 
 /// A text in quotes.

@@ -2,8 +2,9 @@ ghost use Rattle.std.specs.Prelude.{◌≡◌, ◌<◌, ◌++◌, ◌∷◌, [],
 ghost use Rattle.std.specs.Fmt.{signed_decimal};
 ghost use Rattle.key_types.specs.Kinds.{kind_of, kinds_of, value_of, values_of, Fits, EachFits};
 ghost use Rattle.key_types.specs.Literals.{text_literal, blob_literal, boolean_literal, hex_digit, quotes_doubled, hex_digits, literal, literals, list_literal};
-ghost use Rattle.key_text.specs.Written.{further_literals, value_literal, equals_literal, key_literal, row_literal};
+ghost use Rattle.key_text.specs.Written.{further_literals, value_literal, equals_literal, key_literal, row_literal, static_literal};
 
+use crate::quotes::split_quote;
 use itoa::Buffer;
 use key_types::{ByteList, ColType, NoMemory, Schema, TypeList, Value, ValueList, ValueType};
 
@@ -21,13 +22,13 @@ fn put_doubled(text: &[u8], out: &mut ByteList) -> Result<(), NoMemory>
     ensures ok { OnOk result (out.new ≡ out.old ++ quotes_doubled text.now) }
     ensures kept { take (length out.old) out.new ≡ out.old }
 {
-    for byte in text {
-        if *byte == b'\'' {
-            out.push(b'\'')?;
-        }
-        out.push(*byte)?;
+    let mut rest = text;
+    'quotes: while let Some((span, after)) = split_quote(rest) {
+        out.extend(span)?;
+        out.extend(b"''")?;
+        rest = after;
     }
-    Ok(())
+    out.extend(rest)
 }
 
 /// Puts a text in quotes at the end.
@@ -238,6 +239,43 @@ pub fn write_row(
 {
     let before = out.len();
     let written = put_row(schema, partition, clustering, value, out);
+    if written.is_err() {
+        out.truncate(before);
+    }
+    written
+}
+
+/// Puts the partition's components, the word `static` and the value at the end.
+fn put_static(
+    schema: &Schema,
+    kind: ValueType,
+    partition: &ValueList,
+    value: &[u8],
+    out: &mut ByteList,
+) -> Result<(), NoMemory>
+    ensures ok { OnOk result (out.new ≡ out.old ++ static_literal (kinds_of schema.now.partition) kind (values_of partition.now) value.now) }
+    ensures kept { take (length out.old) out.new ≡ out.old }
+{
+    put_list(&schema.partition, partition, out)?;
+    out.extend(b" static")?;
+    put_equals(kind, value, out)
+}
+
+/// Puts a static value of this type at the end, without a line feed: the partition's components, the word `static`, an equals sign and the value. Without memory
+/// `out` is as before.
+pub fn write_static(
+    schema: &Schema,
+    kind: ValueType,
+    partition: &ValueList,
+    value: &[u8],
+    out: &mut ByteList,
+) -> Result<(), NoMemory>
+    requires { EachFits (kinds_of schema.now.partition) (values_of partition.now) }
+    ensures ok { OnOk result (out.new ≡ out.old ++ static_literal (kinds_of schema.now.partition) kind (values_of partition.now) value.now) }
+    ensures err { OnErr result (out.new ≡ out.old) }
+{
+    let before = out.len();
+    let written = put_static(schema, kind, partition, value, out);
     if written.is_err() {
         out.truncate(before);
     }

@@ -1,4 +1,5 @@
 pub mod Kinds
+pub mod Columns
 pub mod Layout
 pub mod Table
 pub mod Literals

@@ -8,7 +8,7 @@ use Rattle.grammar.proofs.Octets.{are_bytes}
 use Rattle.grammar.proofs.Tokens.{token_exact}
 use Rattle.grammar.proofs.Choices.{spaces_exact}
 use Rattle.grammar.proofs.Signs.{Heads, sign_exact, sign_heads, then_heads}
-use Rattle.schema_text.specs.Columns.{Columns}
+use Rattle.key_types.specs.Columns.{Columns}
 use Rattle.schema_text.specs.Reading.{simple_at, tuple_by, closing_at, kind_by, no_close, listed, behind_by, base_at, types_at, is_semicolon, closed_at, clustering_at, value_at, static_at, columns, behind_partition, columns_at}
 use Rattle.schema_text.proofs.Relation.{IsBase, IsTypes, IsKindBy, IsClosing}
 use Rattle.schema_text.proofs.Exactly.{AfterKind, AfterKinds, Letter, token_letter, base_heads, base_exact, kind_exact, types_exact}

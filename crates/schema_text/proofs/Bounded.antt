@@ -4,7 +4,8 @@ use Rattle.std.specs.Prelude.{◌&&◌, nat_le}
 use Rattle.std.proofs.lemmas.Bool.Decides.{nat_tests}
 use Rattle.key_types.specs.Kinds.{Kind, tiny, small, int, big, text, blob, boolean, tuple, reversed, Kinds, end, more}
 use Rattle.key_types.specs.Layout.{count_of, is_kind, are_kinds, is_layout_by}
-use Rattle.schema_text.specs.Columns.{Columns, KeepsBounds, is_few, are_few, is_shallow, are_shallow, is_short, has_few, is_flat}
+use Rattle.key_types.specs.Columns.{Columns}
+use Rattle.schema_text.specs.Bounds.{KeepsBounds, is_few, are_few, is_shallow, are_shallow, is_short, has_few, is_flat}
 use Rattle.schema_text.specs.Grammar.{IsType, AreTypes, IsSome}
 use Rattle.schema_text.specs.Parts.{AreColumns}
 

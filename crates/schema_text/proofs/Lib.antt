@@ -9,5 +9,5 @@ mod Agree
 mod Parsed
 mod Bounded
 mod Written
-mod Short
-mod Unique
+pub mod Short
+pub mod Unique

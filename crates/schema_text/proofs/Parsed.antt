@@ -3,7 +3,7 @@ use Rattle.std.proofs.Common.{◌≡◌, ℕ, ◌+◌, ◌-◌, ◌≤◌, ◌<�
 use Rattle.grammar.specs.Exact.{Longest, Viable}
 use Rattle.grammar.specs.Reading.{whole, all_of, NoSpace}
 use Rattle.grammar.proofs.Map.{whole_found, whole_all, longest}
-use Rattle.schema_text.specs.Columns.{Columns}
+use Rattle.key_types.specs.Columns.{Columns}
 use Rattle.schema_text.specs.Grammar.{IsSchemaText}
 use Rattle.schema_text.specs.Answers.{IsNoText}
 use Rattle.schema_text.specs.Reading.{columns_at}

@@ -5,7 +5,7 @@ use Rattle.key_types.specs.declared.schema.ValueType.{ValueType}
 use Rattle.key_types.specs.declared.schema.ValueType.TheVariants.{Text, Blob}
 use Rattle.key_types.specs.Kinds.{Kind, tiny, small, int, big, text, blob, boolean, tuple, Kinds, end, more}
 use Rattle.grammar.specs.Reading.{Then, Either, Perhaps, Mapped, IsEnd, IsOneOf, IsToken, IsSign, AreSpaces}
-use Rattle.schema_text.specs.Columns.{Columns}
+use Rattle.key_types.specs.Columns.{Columns}
 use Rattle.schema_text.specs.Reading.{turned, listed, columns}
 
 abbrev pub first_type : List ℕ × Kind

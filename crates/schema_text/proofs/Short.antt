@@ -4,7 +4,7 @@ use Rattle.std.specs.Prelude.{codes, replicate}
 use Rattle.key_types.specs.declared.schema.ValueType.{ValueType}
 use Rattle.key_types.specs.declared.schema.ValueType.TheVariants.{Text, Blob}
 use Rattle.key_types.specs.Kinds.{Kind, tiny, small, int, big, text, blob, boolean, tuple, reversed, Kinds, end, more}
-use Rattle.schema_text.specs.Columns.{Columns}
+use Rattle.key_types.specs.Columns.{Columns}
 use Rattle.schema_text.specs.Grammar.{Token, word, sign, spelling, type_tokens, list_tokens, value_token, static_tokens, column_tokens, AreSpelled, IsSchemaText}
 use Rattle.schema_text.specs.Canonical.{type_text, types_text, rest_text, value_text, static_text, lists_text, values_text, canonical}
 
@@ -69,16 +69,16 @@ tokens_short s =
     let p = types_short s.partition in
     let c = types_short s.clustering in
     let v = value_short s.value in
-    let f = static_short s.fixed in
-    let tail = value_token s.value ∷ (static_tokens s.fixed ++ sign 41 ∷ []) in
+    let f = static_short s.static_value in
+    let tail = value_token s.value ∷ (static_tokens s.static_value ++ sign 41 ∷ []) in
     let a = bare_both (list_tokens s.partition) (sign 59 ∷ (list_tokens s.clustering ++ sign 59 ∷ tail)) in
     let b = bare_both (list_tokens s.clustering) (sign 59 ∷ tail) in
-    let d = bare_both (static_tokens s.fixed) (sign 41 ∷ []) in
+    let d = bare_both (static_tokens s.static_value) (sign 41 ∷ []) in
     let e = length-append (lists_text s) (values_text s) in
     let g = length-append (codes "(" ++ types_text s.partition ++ codes "; ") (types_text s.clustering) in
     let h = length-append (codes "(" ++ types_text s.partition) (codes "; ") in
-    let i = length-append (codes "; " ++ value_text s.value ++ static_text s.fixed) (codes ")") in
-    let j = length-append (codes "; " ++ value_text s.value) (static_text s.fixed) in
+    let i = length-append (codes "; " ++ value_text s.value ++ static_text s.static_value) (codes ")") in
+    let j = length-append (codes "; " ++ value_text s.value) (static_text s.static_value) in
     omega arith
 
 pub short : (s : Columns) (bytes : List ℕ) → IsSchemaText s bytes → length (canonical s) ≤ 2 * length bytes

@@ -6,7 +6,7 @@ use Rattle.key_types.specs.declared.schema.ValueType.{ValueType}
 use Rattle.key_types.specs.declared.schema.ValueType.TheVariants.{Text, Blob}
 use Rattle.key_types.specs.Kinds.{Kinds, end, more}
 use Rattle.grammar.specs.Reading.{IsWord, IsSign}
-use Rattle.schema_text.specs.Columns.{Columns}
+use Rattle.key_types.specs.Columns.{Columns}
 use Rattle.schema_text.specs.Grammar.{Token, word, sign, list_tokens, value_token, static_tokens, column_tokens, AreTypes, IsSome, IsSchemaText}
 use Rattle.schema_text.specs.Reading.{columns}
 use Rattle.schema_text.proofs.Relation.{IsTypes, IsClustering, IsValue, IsStatic, IsColumns}
@@ -113,21 +113,21 @@ module _ (fuel : ℕ) where
 
   pub unnamed : (s : Columns) (bytes : List ℕ) → fuel_all s.partition ≤ fuel → fuel_all s.clustering ≤ fuel → IsSchemaText s bytes → IsColumns fuel s bytes
   unnamed s bytes f g is =
-      let tail = sign 59 ∷ (list_tokens s.clustering ++ sign 59 ∷ tail_tokens s.value s.fixed) in
+      let tail = sign 59 ∷ (list_tokens s.clustering ++ sign 59 ∷ tail_tokens s.value s.static_value) in
       let a = split [] (sign 40 ∷ []) (list_tokens s.partition ++ tail) is.rest (spelled_before (column_tokens s) is.rest is.spelled) in
       let b = split [] (list_tokens s.partition) tail a.1 a.4 in
-      let c = split [] (sign 59 ∷ []) (list_tokens s.clustering ++ sign 59 ∷ tail_tokens s.value s.fixed) b.1 b.4 in
-      let d = clustering_unnamed fuel s.clustering c.1 (tail_tokens s.value s.fixed) g is.clustering c.4 in
-      let e = split [] (value_token s.value ∷ []) (ending_tokens s.fixed) d.1 d.4 in
-      let static = static_unnamed s.fixed e.1 e.4 in
-      let value = value_unnamed s.value e.0 (ending_tokens s.fixed ++ []) e.3 in
+      let c = split [] (sign 59 ∷ []) (list_tokens s.clustering ++ sign 59 ∷ tail_tokens s.value s.static_value) b.1 b.4 in
+      let d = clustering_unnamed fuel s.clustering c.1 (tail_tokens s.value s.static_value) g is.clustering c.4 in
+      let e = split [] (value_token s.value ∷ []) (ending_tokens s.static_value) d.1 d.4 in
+      let static = static_unnamed s.static_value e.1 e.4 in
+      let value = value_unnamed s.value e.0 (ending_tokens s.static_value ++ []) e.3 in
       let types = types_back fuel s.partition b.0 (tail ++ []) f is.some is.partition b.3 in
       let bracket = sign_back 40 a.0 ((list_tokens s.partition ++ tail) ++ []) a.3 in
-      let semicolon = sign_back 59 c.0 ((list_tokens s.clustering ++ sign 59 ∷ tail_tokens s.value s.fixed) ++ []) c.3 in (
+      let semicolon = sign_back 59 c.0 ((list_tokens s.clustering ++ sign 59 ∷ tail_tokens s.value s.static_value) ++ []) c.3 in (
         tt,
         replicate is.before 32,
         is.rest,
         (is.before, refl),
-        (tt, a.0, a.1, bracket, (s.partition, b.0, b.1, types, (tt, c.0, c.1, semicolon, (s.clustering, d.0, d.1, d.3, (s.value, e.0, e.1, value, (s.fixed, static, refl), e.2), d.2), c.2), b.2), a.2),
+        (tt, a.0, a.1, bracket, (s.partition, b.0, b.1, types, (tt, c.0, c.1, semicolon, (s.clustering, d.0, d.1, d.3, (s.value, e.0, e.1, value, (s.static_value, static, refl), e.2), d.2), c.2), b.2), a.2),
         is.parts,
       )

@@ -3,7 +3,8 @@ use Rattle.std.proofs.Common.{◌≡◌, ℕ, ◌+◌, ◌≤◌, Bool, true, fa
 use Rattle.key_types.specs.declared.schema.Schema.{Schema}
 use Rattle.schema_text.specs.declared.reading.SchemaError.{SchemaError}
 use Rattle.schema_text.specs.declared.reading.SchemaError.TheVariants as error
-use Rattle.schema_text.specs.Columns.{Columns, columns_of, has_few, is_flat, KeepsBounds}
+use Rattle.key_types.specs.Columns.{Columns, columns_of}
+use Rattle.schema_text.specs.Bounds.{has_few, is_flat, KeepsBounds}
 use Rattle.schema_text.specs.Grammar.{IsSchemaText}
 use Rattle.schema_text.specs.Canonical.{canonical}
 use Rattle.schema_text.specs.Parts.{Bounded}

@@ -13,7 +13,7 @@ use Rattle.grammar.proofs.Map.{map_exact}
 use Rattle.grammar.proofs.Tokens.{ends_exact}
 use Rattle.grammar.proofs.Choices.{AfterWord, one_of_exact, spaces_exact}
 use Rattle.grammar.proofs.Signs.{sign_exact, next_exact, Heads, sign_heads, then_heads, map_heads, heads_begin, begins_as, empty_begins, HasText, sign_text, token_text, end_text, map_text, then_text}
-use Rattle.schema_text.specs.Columns.{Columns}
+use Rattle.key_types.specs.Columns.{Columns}
 use Rattle.schema_text.specs.Reading.{no_end, no_close, types_at, is_semicolon, closed_at, clustering_at, value_word_at, value_at, static_at, columns, behind_partition, columns_at}
 use Rattle.schema_text.proofs.Relation.{first_value, other_values, IsValue, IsLast, IsStaticValue, IsStatic, IsClosed, IsClustering, IsTypes, IsEnding, IsBehindPartition, IsColumns}
 use Rattle.schema_text.proofs.Exactly.{gap_end, Letter, as_letters, AfterKinds, token_letter, types_heads, types_text, types_exact}

@@ -5,7 +5,7 @@ use Rattle.std.proofs.lemmas.List.{append-nil}
 use Rattle.key_types.specs.declared.schema.ValueType.{ValueType}
 use Rattle.key_types.specs.declared.schema.ValueType.TheVariants.{Text, Blob}
 use Rattle.key_types.specs.Kinds.{Kind, tiny, small, int, big, text, blob, boolean, tuple, reversed, Kinds, end, more}
-use Rattle.schema_text.specs.Columns.{Columns}
+use Rattle.key_types.specs.Columns.{Columns}
 use Rattle.schema_text.specs.Grammar.{Token, word, sign, type_tokens, list_tokens, value_token, static_tokens, column_tokens, IsSchemaText}
 use Rattle.schema_text.specs.Canonical.{type_text, types_text, value_text, static_text, values_text, canonical}
 use Rattle.schema_text.specs.Parts.{AreColumns}
@@ -81,13 +81,13 @@ no_word (Some v) = tt
 
 module _ (s : Columns) where
   abbrev tail_tokens : List Token
-  tail_tokens = value_token s.value ∷ ending s.fixed
+  tail_tokens = value_token s.value ∷ ending s.static_value
 
   abbrev tail : List ℕ
-  tail = value_text s.value ++ (static_text s.fixed ++ codes ")")
+  tail = value_text s.value ++ (static_text s.static_value ++ codes ")")
 
   tail_written : Before [] tail_tokens tail
-  tail_written = join [] (value_token s.value ∷ []) (ending s.fixed) (value_text s.value) (static_text s.fixed ++ codes ")") (value_written s.value (ending s.fixed ++ []) (no_word s.fixed)) (static_written s.fixed)
+  tail_written = join [] (value_token s.value ∷ []) (ending s.static_value) (value_text s.value) (static_text s.static_value ++ codes ")") (value_written s.value (ending s.static_value ++ []) (no_word s.static_value)) (static_written s.static_value)
 
   abbrev rows_tokens : List Token
   rows_tokens = list_tokens s.clustering ++ sign 59 ∷ tail_tokens
@@ -111,7 +111,7 @@ module _ (s : Columns) where
   spelled =
       append_assoc (codes "(" ++ types_text s.partition ++ codes "; ") (types_text s.clustering) (values_text s)
       ∙ append_assoc (codes "(" ++ types_text s.partition) (codes "; ") (types_text s.clustering ++ values_text s)
-      ∙ ap (λ l. 40 ∷ (types_text s.partition ++ 59 ∷ 32 ∷ (types_text s.clustering ++ 59 ∷ 32 ∷ l))) (append_assoc (value_text s.value) (static_text s.fixed) (codes ")"))
+      ∙ ap (λ l. 40 ∷ (types_text s.partition ++ 59 ∷ 32 ∷ (types_text s.clustering ++ 59 ∷ 32 ∷ l))) (append_assoc (value_text s.value) (static_text s.static_value) (codes ")"))
 
   pub canonical_text : AreColumns s → IsSchemaText s (canonical s)
   canonical_text h = record {

@@ -5,7 +5,8 @@ use Rattle.key_types.specs.declared.schema.Schema.{Schema}
 use Rattle.grammar.specs.Exact.{Longest}
 use Rattle.schema_text.specs.declared.reading.SchemaError.{SchemaError}
 use Rattle.schema_text.specs.declared.reading.SchemaError.TheVariants as error
-use Rattle.schema_text.specs.Columns.{Columns, columns_of, has_few, is_flat, KeepsBounds}
+use Rattle.key_types.specs.Columns.{Columns, columns_of}
+use Rattle.schema_text.specs.Bounds.{has_few, is_flat, KeepsBounds}
 use Rattle.schema_text.specs.Grammar.{IsSchemaText}
 use Rattle.schema_text.specs.Canonical.{canonical}
 

@@ -3,7 +3,7 @@ use Rattle.std.specs.Prelude.{ℕ, List, [], ◌++◌, codes, Option, Some, None
 use Rattle.key_types.specs.declared.schema.ValueType.{ValueType}
 use Rattle.key_types.specs.declared.schema.ValueType.TheVariants.{Text, Blob}
 use Rattle.key_types.specs.Kinds.{Kind, tiny, small, int, big, text, blob, boolean, tuple, reversed, Kinds, end, more}
-use Rattle.schema_text.specs.Columns.{Columns}
+use Rattle.key_types.specs.Columns.{Columns}
 
 -- a type; several with a comma and a space between each two; and those behind the first of several
 abbrev mutual
@@ -42,7 +42,7 @@ lists_text s = codes "(" ++ types_text s.partition ++ codes "; " ++ types_text s
 
 -- the types of values
 abbrev pub values_text : Columns → List ℕ
-values_text s = codes "; " ++ value_text s.value ++ static_text s.fixed ++ codes ")"
+values_text s = codes "; " ++ value_text s.value ++ static_text s.static_value ++ codes ")"
 
 -- one space after each comma and semicolon and before each `reversed`, and no other
 abbrev pub canonical : Columns → List ℕ

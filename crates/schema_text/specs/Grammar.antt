@@ -3,7 +3,7 @@ use Rattle.std.specs.Prelude.{◌≡◌, ℕ, zero, Bool, true, false, List, [],
 use Rattle.key_types.specs.declared.schema.ValueType.{ValueType}
 use Rattle.key_types.specs.declared.schema.ValueType.TheVariants.{Text, Blob}
 use Rattle.key_types.specs.Kinds.{Kind, tiny, small, int, big, text, blob, boolean, tuple, reversed, Kinds, end, more}
-use Rattle.schema_text.specs.Columns.{Columns}
+use Rattle.key_types.specs.Columns.{Columns}
 
 -- a word made of letters, or one of the signs ( ) < > ; ,
 pub data Token : Type 0 where
@@ -46,7 +46,7 @@ static_tokens (Some v) = sign 59 ∷ value_token v ∷ []
 -- ( partition types ; clustering types ; value type ), and before the last sign perhaps ; static value type
 abbrev pub column_tokens : Columns → List Token
 column_tokens s =
-    sign 40 ∷ (list_tokens s.partition ++ sign 59 ∷ (list_tokens s.clustering ++ sign 59 ∷ value_token s.value ∷ (static_tokens s.fixed ++ sign 41 ∷ [])))
+    sign 40 ∷ (list_tokens s.partition ++ sign 59 ∷ (list_tokens s.clustering ++ sign 59 ∷ value_token s.value ∷ (static_tokens s.static_value ++ sign 41 ∷ [])))
 
 -- a tuple has a component, and a type is followed by at most one `reversed`, which `behind` says of the type around
 abbrev mutual

@@ -1,4 +1,4 @@
-pub mod Columns
+pub mod Bounds
 pub mod Grammar
 pub mod Canonical
 pub mod Reading

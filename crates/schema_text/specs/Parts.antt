@@ -5,12 +5,13 @@ use Rattle.key_types.specs.Kinds.{kinds_of}
 use Rattle.schema_text.specs.declared.reading.Parts.{Parts}
 use Rattle.schema_text.specs.declared.reading.SchemaError.{SchemaError}
 use Rattle.schema_text.specs.declared.reading.SchemaError.TheVariants as error
-use Rattle.schema_text.specs.Columns.{Columns, columns_of, has_few, is_flat}
+use Rattle.key_types.specs.Columns.{Columns, columns_of}
+use Rattle.schema_text.specs.Bounds.{has_few, is_flat}
 use Rattle.schema_text.specs.Grammar.{IsSome, AreTypes}
 
 -- the columns that the parts in memory stand for
 abbrev pub parts_of : Parts → Columns
-parts_of p = record { partition = kinds_of p.partition; clustering = kinds_of p.clustering; value = p.value; fixed = p.static_value }
+parts_of p = record { partition = kinds_of p.partition; clustering = kinds_of p.clustering; value = p.value; static_value = p.static_value }
 
 -- what every text of the grammar keeps
 abbrev pub AreColumns : Columns → Type 0

@@ -6,7 +6,7 @@ use Rattle.key_types.specs.declared.kinds.TypeList.{TypeList}
 use Rattle.key_types.specs.Kinds.{Kind, tiny, small, int, big, text, blob, boolean, tuple, reversed, Kinds, end, more, kinds_of}
 use Rattle.grammar.specs.Exact.{Read}
 use Rattle.grammar.specs.Reading.{then_read, either, perhaps, map_read, ends, by_first, token, one_of, sign_at, spaces_at}
-use Rattle.schema_text.specs.Columns.{Columns}
+use Rattle.key_types.specs.Columns.{Columns}
 
 -- a type of one word, and whether spaces stand behind it
 abbrev pub simple_at : Read (Kind × Bool)
@@ -106,7 +106,7 @@ static_at =
 
 -- these columns
 abbrev pub columns : Kinds → Kinds → ValueType → Option ValueType → Columns
-columns partition clustering value fixed = record { partition = partition; clustering = clustering; value = value; fixed = fixed }
+columns partition clustering value static_value = record { partition = partition; clustering = clustering; value = value; static_value = static_value }
 
 -- what is read behind the partition types
 abbrev pub behind_partition : ℕ → Kinds → Read Columns

@@ -1,7 +1,7 @@
 ghost use Rattle.std.specs.Prelude.{◌≡◌, nat_le};
 ghost use Rattle.key_types.specs.Kinds.{kind_of, kinds_of};
 ghost use Rattle.key_types.specs.Layout.{count_of};
-ghost use Rattle.schema_text.specs.Columns.{is_few, are_few, is_shallow, are_shallow, is_short};
+ghost use Rattle.schema_text.specs.Bounds.{is_few, are_few, is_shallow, are_shallow, is_short};
 
 use key_types::{ColType, TypeList};
 

@@ -5,7 +5,8 @@ ghost use Rattle.key_types.specs.Kinds.{kinds_of};
 ghost use Rattle.schema_text.specs.Parts.{parts_of, AreColumns, Bounded};
 ghost use Rattle.schema_text.specs.Reading.{closed_at, clustering_at, columns_at};
 ghost use Rattle.schema_text.specs.Answers.{Parses, Reads, ReadsCanonical};
-ghost use Rattle.schema_text.specs.Columns.{columns_of, has_few, is_flat};
+ghost use Rattle.key_types.specs.Columns.{columns_of};
+ghost use Rattle.schema_text.specs.Bounds.{has_few, is_flat};
 ghost use Rattle.schema_text.specs.Canonical.{canonical};
 
 use crate::bounds::{are_shallow, is_short};

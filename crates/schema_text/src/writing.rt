@@ -1,6 +1,6 @@
 ghost use Rattle.std.specs.Prelude.{◌≡◌, ◌++◌, length, take, OnOk, OnErr};
 ghost use Rattle.key_types.specs.Kinds.{kind_of, kinds_of};
-ghost use Rattle.schema_text.specs.Columns.{columns_of};
+ghost use Rattle.key_types.specs.Columns.{columns_of};
 ghost use Rattle.schema_text.specs.Canonical.{type_text, types_text, rest_text, value_text, static_text, lists_text, values_text, canonical};
 
 use key_types::{ByteList, ColType, NoMemory, Schema, TypeList, ValueType};

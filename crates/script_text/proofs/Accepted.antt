@@ -8,7 +8,7 @@ use Rattle.key_types.specs.declared.schema.ValueType.{ValueType}
 use Rattle.key_types.specs.declared.schema.ValueType.TheVariants.{Text, Blob}
 use Rattle.key_types.specs.Kinds.{Kinds, Val, number, bytes, truth, values, Vals, Fits, EachFits}
 use Rattle.byte_comparable.specs.Encoding.{key_string}
-use Rattle.schema_text.specs.Columns.{Columns}
+use Rattle.key_types.specs.Columns.{Columns, IsValueOf}
 use Rattle.script_text.specs.declared.script.Put.{Put}
 use Rattle.script_text.specs.declared.script.Script.{Script}
 use Rattle.script_text.specs.declared.script.LineCause.{LineCause}
@@ -19,7 +19,7 @@ use Rattle.script_text.specs.Lines.{lines_of}
 use Rattle.script_text.specs.Grammar.{PutText, value_kind, IsTypeOf, RowFits, PutFits}
 use Rattle.script_text.specs.Reading.{line_of}
 use Rattle.script_text.specs.Script.{◌>>=◌, key_of, row_key, bytes_in, short_value, put_of, some_put, put_on, at_line, in_front, with_rest, puts_from, one_batch, script_of, puts_of}
-use Rattle.script_text.specs.Laws.{IsKey, IsValueOf, IsPut, ArePuts, IsAccepted}
+use Rattle.script_text.specs.Laws.{IsKey, IsPut, ArePuts, IsAccepted}
 use Rattle.script_text.proofs.Told.{line_fits}
 
 -- what two steps answer

@@ -1,7 +1,36 @@
 -- Where the first line break stands.
-use Rattle.std.proofs.Common.{◌≡◌, ◌≢◌, ℕ, ◌==◌, ◌+◌, ◌<◌, Bool, true, false, cond, None, Some, List, [], ◌∷◌, length, take, drop, refl, arith, ap, add-one, suc}
+use Rattle.std.proofs.Common.{◌≡◌, ◌≢◌, ℕ, ◌==◌, ◌+◌, ◌<◌, Bool, true, false, cond, Option, None, Some, List, [], ◌∷◌, length, take, drop, refl, sym, ◌∙◌, arith, ap, add-one, zero, suc}
 use Rattle.std.specs.List.{position_from}
+use Rattle.memchr.specs.Find.{IsFirstByte, is_byte}
 use Rattle.script_text.specs.Lines.{lines_of, onto_first}
+
+-- ---- the search for a byte
+
+abbrev by_first : ℕ → Option ℕ → Option ℕ
+by_first i None = None
+by_first i (Some k) = Some (i + k)
+
+place_by : (t : Bool) (i b : ℕ) (bs : List ℕ) (r : Option ℕ) → ((s : Option ℕ) → IsFirstByte (is_byte 10) bs s → position_from (λ b. b == 10) (i + 1) bs ≡ by_first (i + 1) s)
+    → (b == 10) ≡ t → IsFirstByte (is_byte 10) (b ∷ bs) r → cond t (Some i) (position_from (λ b. b == 10) (i + 1) bs) ≡ by_first i r
+place_by true i b bs None ih e h = absurd (h 0 (omega arith) (omega arith) e)
+place_by true i b bs (Some zero) ih e h = ap Some (omega arith)
+place_by true i b bs (Some (suc k)) ih e h = absurd (h.0.before 0 (omega arith) (omega arith) e)
+place_by false i b bs None ih e h = ih None (λ k l m. h (suc k) (omega arith) (omega arith))
+place_by false i b bs (Some zero) ih e h = absurd (let yes : (b == 10) ≡ true = h.1 in cc)
+place_by false i b bs (Some (suc k)) ih e h =
+    ih (Some k) (record { low = omega arith; high = (let l = h.0.high in omega arith); before = λ j l m. h.0.before (suc j) (omega arith) (omega arith) }, h.1) ∙ ap Some (omega arith)
+
+place_from : (i : ℕ) (bs : List ℕ) (r : Option ℕ) → IsFirstByte (is_byte 10) bs r → position_from (λ b. b == 10) i bs ≡ by_first i r
+place_from i [] None h = refl
+place_from i [] (Some k) h = absurd (let l = h.0.high in omega arith)
+place_from i (b ∷ bs) r h = place_by (b == 10) i b bs r (place_from (i + 1) bs) refl h
+
+-- the place of the first line break is the one that the search finds
+pub place : (bs : List ℕ) (r : Option ℕ) → IsFirstByte (is_byte 10) bs r → r ≡ position_from (λ b. b == 10) 0 bs
+place bs None h = sym (place_from 0 bs None h)
+place bs (Some k) h = ap Some (omega arith) ∙ sym (place_from 0 bs (Some k) h)
+
+-- ---- the lines around it
 
 -- no byte is a line break
 by_none : (t : Bool) (i b : ℕ) (bs : List ℕ) → ((c : ℕ) (cs : List ℕ) → bs ≡ c ∷ cs → position_from (λ b. b == 10) (i + 1) bs ≡ None → lines_of bs ≡ bs ∷ [])

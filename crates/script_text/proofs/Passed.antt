@@ -8,7 +8,7 @@ use Rattle.key_text.specs.Grammar.{IsLiteral, AreLiterals, AreFurther, IsList, I
 use Rattle.key_text.specs.Marking.{Marked}
 use Rattle.key_text.specs.Outside.{Passes, AnyPasses, FurtherPasses, ListPasses}
 use Rattle.key_text.proofs.Tracked.{Marks, Tracked}
-use Rattle.schema_text.specs.Columns.{Columns}
+use Rattle.key_types.specs.Columns.{Columns}
 use Rattle.script_text.specs.declared.script.LineCause.{LineCause}
 use Rattle.script_text.specs.declared.script.LineCause.TheVariants.{BadText}
 use Rattle.script_text.specs.Grammar.{PutText, IsPut, IsLine, PutFits, LineFits}

@@ -18,7 +18,7 @@ use Rattle.key_text.proofs.Plain.{value_at, list_at}
 use Rattle.key_text.proofs.Composed.{exact_as}
 use Rattle.key_text.proofs.Lists.{value_exact, list_exact, literal_heads, list_heads, list_some, text_exact}
 use Rattle.key_text.proofs.Tracked.{Tracks, value_tracked, list_tracked}
-use Rattle.schema_text.specs.Columns.{Columns}
+use Rattle.key_types.specs.Columns.{Columns}
 use Rattle.script_text.specs.Grammar.{PutText, value_kind, IsSet, IsRest, IsPut}
 use Rattle.script_text.specs.Passing.{RowPasses, PutPasses}
 use Rattle.script_text.specs.Reading.{RestText, unmarked, set_at, row_at, static_at, is_open, rest_by, keyed, key_at, put_at}
@@ -118,7 +118,7 @@ module _ (s : Columns) where
       (token_exact true (codes "static") (are_bytes (codes "static") refl)) (set_exact t) (set_text t)
       (λ spaced v bs rest is. heads_begin (AfterGap true spaced) (IsSet t) (set_heads t (AfterGap true spaced) (after_word spaced 61 refl (refl, refl))) v bs rest is)
 
-  static_tracked : (t : ValueType) → s.fixed ≡ Some t → Tracks (RestIs s) (RowPasses s) (RestNumbers s) (static_at t) (plain_static t)
+  static_tracked : (t : ValueType) → s.static_value ≡ Some t → Tracks (RestIs s) (RowPasses s) (RestNumbers s) (static_at t) (plain_static t)
   static_tracked t fixed = paired_tracked static_of (unmarked (token true (codes "static"))) (set_at t) (token true (codes "static")) (plain_set t) (IsToken (codes "static")) (IsSet t) (RestIs s) Never Never (RowPasses s)
       (λ _. ⊤) (λ _. ⊤) (RestNumbers s)
       (unmarked_tracked (token true (codes "static")) (IsToken (codes "static")) (AfterGap true) (token_exact true (codes "static") (are_bytes (codes "static") refl))) (set_tracked t)
@@ -138,23 +138,23 @@ module _ (s : Columns) where
   row_to : (r : RestText) (bs : List ℕ) → IsRowSet r bs → RestIs s r bs
   row_to r bs (cs, list, set, l, (v, is, same), e) = subst (λ (x : RestText). RestIs s x bs) (sym same) (list, set, l, is, e)
 
-  static_to : (t : ValueType) → s.fixed ≡ Some t → (r : RestText) (bs : List ℕ) → IsStaticSet t r bs → RestIs s r bs
+  static_to : (t : ValueType) → s.static_value ≡ Some t → (r : RestText) (bs : List ℕ) → IsStaticSet t r bs → RestIs s r bs
   static_to t fixed r bs (spaced, word, set, w, (v, is, same), e) = subst (λ (x : RestText). RestIs s x bs) (sym same) (t, word, set, fixed, (spaced, w), is, e)
 
   some_same : (t u : ValueType) (o : Option ValueType) → o ≡ Some t → o ≡ Some u → u ≡ t
   some_same t u o e f = cc
 
-  row_from : s.fixed ≡ None → (r : RestText) (bs : List ℕ) → RestIs s r bs → IsRowSet r bs
+  row_from : s.static_value ≡ None → (r : RestText) (bs : List ℕ) → RestIs s r bs → IsRowSet r bs
   row_from fixed (Some cs, v) bs (list, set, l, is, e) = (cs, list, set, l, (v, is, refl), e)
   row_from fixed (None, v) bs (t, word, set, some, w, is, e) = absurd (let no : None ≡ Some t = sym fixed ∙ some in cc)
 
-  rest_to : (t : ValueType) → s.fixed ≡ Some t → (r : RestText) (bs : List ℕ) → Either IsRowSet (IsStaticSet t) r bs → RestIs s r bs
+  rest_to : (t : ValueType) → s.static_value ≡ Some t → (r : RestText) (bs : List ℕ) → Either IsRowSet (IsStaticSet t) r bs → RestIs s r bs
   rest_to t fixed r bs (inl is) = row_to r bs is
   rest_to t fixed r bs (inr is) = static_to t fixed r bs is
 
-  rest_from : (t : ValueType) → s.fixed ≡ Some t → (r : RestText) (bs : List ℕ) → RestIs s r bs → Either IsRowSet (IsStaticSet t) r bs
+  rest_from : (t : ValueType) → s.static_value ≡ Some t → (r : RestText) (bs : List ℕ) → RestIs s r bs → Either IsRowSet (IsStaticSet t) r bs
   rest_from t fixed (Some cs, v) bs (list, set, l, is, e) = inl (cs, list, set, l, (v, is, refl), e)
-  rest_from t fixed (None, v) bs (u, word, set, some, (spaced, w), is, e) = inr (spaced, word, set, w, (v, subst (λ (x : ValueType). IsSet x v set) (some_same t u s.fixed fixed some) is, refl), e)
+  rest_from t fixed (None, v) bs (u, word, set, some, (spaced, w), is, e) = inr (spaced, word, set, w, (v, subst (λ (x : ValueType). IsSet x v set) (some_same t u s.static_value fixed some) is, refl), e)
 
   row_set_heads : (r : RestText) (bs : List ℕ) → IsRowSet r bs → (c : ℕ) × (cs : List ℕ) × (bs ≡ c ∷ cs) × (is_open c ≡ true)
   row_set_heads r bs (cs, list, set, l, rest, e) = (40, (replicate l.3.0 32 ++ (l.1 ++ l.2)) ++ set, e ∙ ap (λ x. x ++ set) (l.6 ∙ ap (λ x. x ++ (l.1 ++ l.2)) l.3.1), refl)
@@ -168,14 +168,14 @@ module _ (s : Columns) where
       let k = set_text s.value in
       (h.1 ++ k.1, (Some h.0, k.0), (h.0, h.1, k.1, h.2, (k.0, k.2, refl), refl), bytes_both h.1 k.1 h.3 k.3)
 
-  rest_exact : (o : Option ValueType) → s.fixed ≡ o → Exact (plain_rest o) (RestIs s) Closing
+  rest_exact : (o : Option ValueType) → s.static_value ≡ o → Exact (plain_rest o) (RestIs s) Closing
   rest_exact None fixed = exact_as plain_row IsRowSet (RestIs s) Closing row_exact row_to (row_from fixed)
   rest_exact (Some t) fixed = exact_as (by_first is_open plain_row (plain_static t)) (Either IsRowSet (IsStaticSet t)) (RestIs s) Closing
       (first_exact is_open plain_row (plain_static t) IsRowSet (IsStaticSet t) Closing row_exact (static_exact t) row_set_heads (static_set_heads t)
       row_some)
       (rest_to t fixed) (rest_from t fixed)
 
-  rest_tracked : (o : Option ValueType) → s.fixed ≡ o → Tracks (RestIs s) (RowPasses s) (RestNumbers s) (rest_by s o) (plain_rest o)
+  rest_tracked : (o : Option ValueType) → s.static_value ≡ o → Tracks (RestIs s) (RowPasses s) (RestNumbers s) (rest_by s o) (plain_rest o)
   rest_tracked None fixed = row_tracked
   rest_tracked (Some t) fixed = first_tracked is_open (RestIs s) (RowPasses s) (RestNumbers s) (row_at s) (static_at t) plain_row (plain_static t) row_tracked (static_tracked t fixed)
 
@@ -199,7 +199,7 @@ module _ (s : Columns) where
   PutNumbers p = AllNumbersFit s.partition p.partition × RowNumbers s p.clustering
 
   abbrev plain_key : Read PutText
-  plain_key = both keyed (list_at s.partition) (plain_rest s.fixed)
+  plain_key = both keyed (list_at s.partition) (plain_rest s.static_value)
 
   key_to : (p : PutText) (bs : List ℕ) → Both keyed (IsList s.partition) (RestIs s) p bs → KeyIs p bs
   key_to p bs (vs, list, rest, l, (r, is, same), e) = subst (λ (x : PutText). KeyIs x bs) (sym same) (list, rest, l, is, e)
@@ -209,12 +209,12 @@ module _ (s : Columns) where
 
   key_exact : Exact plain_key KeyIs Closing
   key_exact = exact_as plain_key (Both keyed (IsList s.partition) (RestIs s)) KeyIs Closing
-      (both_exact keyed (list_at s.partition) (plain_rest s.fixed) (IsList s.partition) (RestIs s) (λ _. NoSpace) (λ b. no_end b ≡ false) (list_exact s.partition) (rest_exact s.fixed refl) rest_text
+      (both_exact keyed (list_at s.partition) (plain_rest s.static_value) (IsList s.partition) (RestIs s) (λ _. NoSpace) (λ b. no_end b ≡ false) (list_exact s.partition) (rest_exact s.static_value refl) rest_text
       (λ vs r bs rest is. heads_begin NoSpace (RestIs s) rest_heads r bs rest is)) key_to key_from
 
   key_tracked : Tracks KeyIs KeyPasses PutNumbers (key_at s) plain_key
-  key_tracked = paired_tracked keyed (marked_list s.partition) (rest_by s s.fixed) (list_at s.partition) (plain_rest s.fixed) (IsList s.partition) (RestIs s) KeyIs (ListPasses s.partition) (RowPasses s) KeyPasses
-      (AllNumbersFit s.partition) (RestNumbers s) PutNumbers (list_tracked s.partition) (rest_tracked s.fixed refl)
+  key_tracked = paired_tracked keyed (marked_list s.partition) (rest_by s s.static_value) (list_at s.partition) (plain_rest s.static_value) (IsList s.partition) (RestIs s) KeyIs (ListPasses s.partition) (RowPasses s) KeyPasses
+      (AllNumbersFit s.partition) (RestNumbers s) PutNumbers (list_tracked s.partition) (rest_tracked s.static_value refl)
       (λ vs r front behind list rest. (front, behind, list, rest, refl)) (λ vs r h k. (h, k))
       (λ r front behind at h is. (front, behind, at, refl, inl (h, refl, r.0, r.1, is))) (λ vs front behind at is h k. (front, behind, at, refl, inr (vs, is, h, k, refl)))
 

@@ -12,7 +12,7 @@ use Rattle.key_text.specs.Outside.{NumbersFit}
 use Rattle.key_text.specs.Marking.{Marked}
 use Rattle.key_text.proofs.Utf.{literal_fits, list_fits, whole_within, whole_bytes}
 use Rattle.key_text.proofs.Answered as answered
-use Rattle.schema_text.specs.Columns.{Columns}
+use Rattle.key_types.specs.Columns.{Columns}
 use Rattle.script_text.specs.declared.script.LineCause.{LineCause}
 use Rattle.script_text.specs.declared.script.LineCause.TheVariants.{BadText}
 use Rattle.script_text.specs.Grammar.{PutText, value_kind, IsSet, IsRest, IsPut, IsComment, IsBlank, IsLine, IsTypeOf, RowFits, PutFits, LineFits}

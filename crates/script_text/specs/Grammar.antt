@@ -5,7 +5,7 @@ use Rattle.key_types.specs.declared.schema.ValueType.TheVariants.{Text, Blob}
 use Rattle.key_types.specs.Kinds.{Kind, text, blob, Val, Vals, Fits, EachFits}
 use Rattle.grammar.specs.Reading.{IsSign, IsToken}
 use Rattle.key_text.specs.Grammar.{IsLiteral, IsList, IsText}
-use Rattle.schema_text.specs.Columns.{Columns}
+use Rattle.key_types.specs.Columns.{Columns}
 
 -- what a line puts: the components of a partition, those of the row within it or none for the partition's static value, and the value
 pub record PutText : Type 0 where
@@ -30,7 +30,7 @@ IsSet t v bs = (equals : List ℕ) × (value : List ℕ) × IsSign 61 tt equals 
 abbrev pub IsRest : Columns → Option Vals → Val → List ℕ → Type 0
 IsRest s (Some cs) v bs = (list : List ℕ) × (set : List ℕ) × IsList s.clustering cs list × IsSet s.value v set × (bs ≡ list ++ set)
 IsRest s None v bs =
-    (t : ValueType) × (word : List ℕ) × (set : List ℕ) × (s.fixed ≡ Some t) × IsWord (codes "static") word × IsSet t v set × (bs ≡ word ++ set)
+    (t : ValueType) × (word : List ℕ) × (set : List ℕ) × (s.static_value ≡ Some t) × IsWord (codes "static") word × IsSet t v set × (bs ≡ word ++ set)
 
 -- `put`, the components of a partition, and the rest, without spaces before
 abbrev pub IsPut : Columns → PutText → List ℕ → Type 0
@@ -54,7 +54,7 @@ IsLine s (Some p) bs = IsText (IsPut s) p bs
 -- the value's type: that of rows, or that of static values
 abbrev pub IsTypeOf : Columns → Option Vals → ValueType → Type 0
 IsTypeOf s (Some cs) t = t ≡ s.value
-IsTypeOf s None t = s.fixed ≡ Some t
+IsTypeOf s None t = s.static_value ≡ Some t
 
 -- the components of a row fit
 abbrev pub RowFits : Columns → Option Vals → Type 0

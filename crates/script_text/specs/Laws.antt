@@ -1,12 +1,11 @@
 -- What holds of the lines of scripts, and of the puts of an accepted one. This project's own.
-use Rattle.std.specs.Prelude.{◌≡◌, ◌⊎◌, ◌≤◌, ℕ, List, [], ◌∷◌, length, true, Option, Some, Result, Ok, Err, IsTrue}
+use Rattle.std.specs.Prelude.{◌≡◌, ◌⊎◌, ◌≤◌, ℕ, List, [], ◌∷◌, length, true, Option, Some, Result, Ok, Err}
 use Rattle.std.specs.Str.{is_utf8}
 use Rattle.key_types.specs.declared.schema.ValueType.{ValueType}
-use Rattle.key_types.specs.declared.schema.ValueType.TheVariants.{Text, Blob}
+use Rattle.key_types.specs.Columns.{Columns, IsValueOf}
 use Rattle.key_types.specs.Kinds.{Kinds, Vals, EachFits}
 use Rattle.byte_comparable.specs.Encoding.{key_string}
 use Rattle.grammar.specs.Exact.{Longest}
-use Rattle.schema_text.specs.Columns.{Columns}
 use Rattle.script_text.specs.declared.script.LineCause.{LineCause}
 use Rattle.script_text.specs.declared.script.LineCause.TheVariants as cause
 use Rattle.script_text.specs.declared.script.Put.{Put}
@@ -38,18 +37,13 @@ pub record ReadsLines : Type 0 where
 abbrev pub IsKey : Kinds → List ℕ → Type 0
 IsKey ts string = (vs : Vals) × EachFits ts vs × (string ≡ key_string ts vs) × (length string ≤ 1024)
 
--- a value of the type, of at most 65,535 bytes
-abbrev pub IsValueOf : ValueType → List ℕ → Type 0
-IsValueOf Text v = (length v ≤ 65535) × IsTrue (is_utf8 v)
-IsValueOf Blob v = length v ≤ 65535
-
 -- a put of a row: its strings are keys, and the value is of the type of rows
 abbrev pub IsRowPut : Columns → Put → Type 0
 IsRowPut s put = IsKey s.clustering put.clustering × IsValueOf s.value put.value
 
 -- a put of a static value, which there is a type for: the string within the partition is empty
 abbrev pub IsStaticPut : Columns → Put → Type 0
-IsStaticPut s put = (t : ValueType) × (s.fixed ≡ Some t) × (put.clustering ≡ []) × IsValueOf t put.value
+IsStaticPut s put = (t : ValueType) × (s.static_value ≡ Some t) × (put.clustering ≡ []) × IsValueOf t put.value
 
 -- a put under a schema
 abbrev pub IsPut : Columns → Put → Type 0

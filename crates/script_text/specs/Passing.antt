@@ -3,7 +3,7 @@ use Rattle.std.specs.Prelude.{◌≡◌, ◌⊎◌, ℕ, ◌+◌, List, ◌++◌
 use Rattle.key_types.specs.Kinds.{Val, Vals}
 use Rattle.key_text.specs.Grammar.{IsList}
 use Rattle.key_text.specs.Outside.{AllNumbersFit, ListPasses, TextPasses}
-use Rattle.schema_text.specs.Columns.{Columns}
+use Rattle.key_types.specs.Columns.{Columns}
 use Rattle.script_text.specs.Grammar.{IsWord, IsSet, IsRest}
 
 -- among the components of a row

@@ -5,7 +5,7 @@ use Rattle.key_types.specs.Kinds.{Val, Vals}
 use Rattle.grammar.specs.Exact.{Read}
 use Rattle.grammar.specs.Reading.{then_read, map_read, by_first, token, sign_at, spaces_at, whole}
 use Rattle.key_text.specs.Marking.{Marked, marked_at, marked_list}
-use Rattle.schema_text.specs.Columns.{Columns}
+use Rattle.key_types.specs.Columns.{Columns}
 use Rattle.script_text.specs.declared.script.LineCause.{LineCause}
 use Rattle.script_text.specs.declared.script.LineCause.TheVariants.{BadText, OutOfRange}
 use Rattle.script_text.specs.Grammar.{PutText, value_kind}
@@ -53,7 +53,7 @@ keyed vs rest = record { partition = vs; clustering = rest.0; value = rest.1 }
 
 -- the components of a partition and what is behind them
 abbrev pub key_at : Columns → Option ℕ → Read (Marked PutText)
-key_at s = paired keyed (marked_list s.partition) (rest_by s s.fixed)
+key_at s = paired keyed (marked_list s.partition) (rest_by s s.static_value)
 
 -- a put, without spaces before
 abbrev pub put_at : Columns → Option ℕ → Read (Marked PutText)

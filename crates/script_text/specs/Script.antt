@@ -4,7 +4,7 @@ use Rattle.std.specs.Str.{is_utf8}
 use Rattle.key_types.specs.Kinds.{Kinds, Val, bytes, Vals}
 use Rattle.key_types.specs.Table.{Entry}
 use Rattle.byte_comparable.specs.Encoding.{key_string}
-use Rattle.schema_text.specs.Columns.{Columns}
+use Rattle.key_types.specs.Columns.{Columns}
 use Rattle.script_text.specs.declared.script.Put.{Put}
 use Rattle.script_text.specs.declared.script.Batch.{Batch}
 use Rattle.script_text.specs.declared.script.Script.{Script}

@@ -2,10 +2,13 @@ ghost use Rattle.std.specs.Prelude.{◌≡◌, ◌<◌, ◌∷◌, [], length, n
 ghost use Rattle.std.specs.List.{position_from};
 ghost use Rattle.script_text.specs.Lines.{lines_of};
 
+use memchr::memchr;
+
+/// Where the first line feed is.
 fn break_in(bytes: &[u8]) -> Option<usize>
     ensures { result ≡ position_from (λ b. b == 10) 0 bytes.now }
 {
-    bytes.iter().position(|b| *b == b'\n')
+    memchr(b'\n', bytes)
 }
 
 /// Where the first line break is.

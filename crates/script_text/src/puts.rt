@@ -2,7 +2,7 @@
 ghost use Rattle.std.specs.Prelude.{◌≡◌, ◌≤◌, ◌-◌, length, None, Ok, IfOk, IfErr};
 ghost use Rattle.grammar.specs.Code.{Gives};
 ghost use Rattle.key_types.specs.Kinds.{kind_of, value_of};
-ghost use Rattle.schema_text.specs.Columns.{columns_of};
+ghost use Rattle.key_types.specs.Columns.{columns_of};
 ghost use Rattle.script_text.specs.Grammar.{value_kind};
 ghost use Rattle.script_text.specs.Reading.{set_at, row_at, static_at, rest_by, put_at, whole_put};
 ghost use Rattle.script_text.specs.Parts.{put_in, row_in};

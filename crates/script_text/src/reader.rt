@@ -2,7 +2,7 @@
 ghost use Rattle.std.specs.Prelude.{◌≡◌, ◌≤◌, ◌∷◌, ◌++◌, ◌⊎◌, [], length, IfOk, OnOk, IsTrue};
 ghost use Rattle.std.specs.Str.{is_utf8};
 ghost use Rattle.key_types.specs.Kinds.{kinds_of, values_of, value_of, text, blob, Fits, EachFits};
-ghost use Rattle.schema_text.specs.Columns.{columns_of};
+ghost use Rattle.key_types.specs.Columns.{columns_of};
 ghost use Rattle.script_text.specs.Grammar.{LineFits, RowFits, PutFits};
 ghost use Rattle.script_text.specs.Parts.{components_in, put_in, said_in, Sees};
 ghost use Rattle.script_text.specs.Reading.{is_comment, is_blank, line_of};

@@ -1,9 +1,8 @@
 -- How a scan ends.
-use Rattle.std.proofs.Common.{◌≡◌, ◌≢◌, ◌⊎◌, ◌↔◌, ℕ, ◌+◌, ◌<◌, ◌≤◌, ◌^◌, min, Bool, true, false, List, [], ◌∷◌, ◌++◌, length, take, drop, Option, None, Some, Result, Ok, Err, IsTrue, inl, inr, refl, sym, ap, ◌∙◌, subst, arith, append_assoc, length-append, ⊎_elim}
-use Rattle.std.proofs.lemmas.List.{append-nil, take_all, take-append-le, length-take}
-use Rattle.std.proofs.lemmas.Slice.Eq.{bytes_eq-Decides}
+use Rattle.std.proofs.Common.{◌≡◌, ◌⊎◌, ℕ, ◌+◌, ◌≤◌, false, List, [], ◌∷◌, ◌++◌, length, Option, None, Some, Result, Ok, Err, inl, inr, refl, sym, ap, ◌∙◌, subst, arith, append_assoc, length-append, ⊎_elim}
+use Rattle.std.proofs.lemmas.List.{append-nil, take-append-le}
+use Rattle.std.proofs.Math.Seq.{take-nil}
 use Rattle.std.specs.Prelude.{IfSome}
-use Rattle.std.specs.Str.{bytes_eq}
 use Rattle.outside.specs.Causes.{Rose}
 use Rattle.outside.specs.Files.{Files, bytes_of}
 use Rattle.outside.specs.Told.{WhereTold}
@@ -17,33 +16,20 @@ use Rattle.table_tool.specs.declared.scan.ScanError.TheVariants as scan_error
 use Rattle.table_tool.specs.FaultLine.{fault_line}
 use Rattle.table_tool.specs.Outcome.{AppendsPrefix, IsOrNoMemory, Refuses, Says}
 use Rattle.table_tool.specs.Printed.{count_line, entry_lines, rows_text}
-use Rattle.table_tool.specs.Scanned.{Holding, IsEither, Prints, Scanned}
-use Rattle.table_tool.specs.Scanning.{EndsScan, IsShown, IsUnfinished, ScanEnds, ScanPrints, ScanWrites, Shown, all, cut, part, shown_text}
-use Rattle.table_tool.specs.Standing.{Holds, StandFor, data_id, first_types, entries_in, row_entries, schema_id, schema_text}
+use Rattle.table_tool.specs.Scanned.{Holding, IsEither, IsPart, Prints, Scanned}
+use Rattle.table_tool.specs.Scanning.{EndsScan, IsShown, IsUnfinished, IsWhole, ScanEnds, ScanPrints, ScanWrites, Shown, all, cut, nothing, part, shown_text}
+use Rattle.table_tool.specs.Standing.{Holds, IsSchema, StandFor, data_id, entries_in, row_entries, schema_id}
+use Rattle.table_tool.specs.Entries.{row_count}
 use Rattle.table_tool.specs.Steps.{inside_of}
-use Rattle.data_file.specs.Types.{Types}
-use Rattle.data_file.specs.Listing.{AreRows, ArePartitions, Partition, Row, data_bytes, end_bytes, head_bytes, row_bytes, rows_bytes}
+use Rattle.key_types.specs.Columns.{Columns}
+use Rattle.data_file.specs.Listing.{AreRows, ArePartitions, Partition, Row, data_bytes, end_bytes, fixed_bytes, head_bytes, partition_bytes, row_bytes, rows_bytes}
 use Rattle.table_tool.specs.Walk.{Passes, Stops, Walks}
 use Rattle.table_tool.specs.Walk as walks
 use Rattle.table_tool.specs.Window.{Unread, Continues}
 use Rattle.table_tool.proofs.PrintedLemmas.{lines_append}
 use Rattle.table_tool.proofs.ScanLemmas.{cut_prefix}
-
--- ---- what is told
-
-told_map : (a b : Option (List ℕ)) (P Q : List ℕ → List ℕ → Type 0) → ((x y : List ℕ) → P x y → Q x y) → WhereTold a b P → WhereTold a b Q
-told_map None None P Q f told = tt
-told_map None (Some y) P Q f told = absurd told
-told_map (Some x) None P Q f told = absurd told
-told_map (Some x) (Some y) P Q f told = f x y told
-
-told_then : (a b c : Option (List ℕ)) (P Q R : List ℕ → List ℕ → Type 0) → ((x y z : List ℕ) → P x y → Q y z → R x z) → WhereTold a b P → WhereTold b c Q → WhereTold a c R
-told_then None None None P Q R f one two = tt
-told_then None None (Some z) P Q R f one two = absurd two
-told_then None (Some y) c P Q R f one two = absurd one
-told_then (Some x) None c P Q R f one two = absurd one
-told_then (Some x) (Some y) None P Q R f one two = absurd two
-told_then (Some x) (Some y) (Some z) P Q R f one two = f x y z one two
+use Rattle.table_tool.proofs.SchemaLemmas.{one_schema}
+use Rattle.table_tool.proofs.Writes.{told_so, told_then}
 
 -- a count that rose after a while rose
 pub earlier : (sink mid sink' : ℕ) → sink ≤ mid → Rose mid sink' → Rose sink sink'
@@ -66,6 +52,7 @@ module _ (pushed text lines : List ℕ) (whole : pushed ++ text ≡ lines) (sink
   behind_one status.SinkFault x y z e writes = cut_behind x y z e writes
   behind_one status.NoMemory x y z e writes = cut_behind x y z e writes
   behind_one status.Usage x y z e writes = says_behind (fault_line status.Usage) x y z e writes
+  behind_one status.Key x y z e writes = says_behind (fault_line status.Key) x y z e writes
   behind_one (status.BadLine line cause) x y z e writes = says_behind (fault_line (status.BadLine line cause)) x y z e writes
   behind_one status.SourceFault x y z e writes = says_behind (fault_line status.SourceFault) x y z e writes
   behind_one status.StoreFault x y z e writes = says_behind (fault_line status.StoreFault) x y z e writes
@@ -79,12 +66,9 @@ module _ (pushed text lines : List ℕ) (whole : pushed ++ text ≡ lines) (sink
 
 -- ---- a refusal before any row
 
-nothing_passed : (file : List ℕ) → IsShown file (part [])
-nothing_passed file = (None, 0, record { onward = λ more stop walk. walk; only = λ every stop walk. (every, refl, walk) })
-
-pub nothing_shown : (files : Option Files) → IfSome files (λ m. IsShown (bytes_of m data_id) (part []))
+pub nothing_shown : (files : Option Files) → IfSome files (λ m. IsShown m nothing)
 nothing_shown None = tt
-nothing_shown (Some m) = nothing_passed (bytes_of m data_id)
+nothing_shown (Some m) = tt
 
 pub nothing_written : (written : Option (List ℕ)) (sink : ℕ) → WhereTold written written (ScanWrites status.NoMemory [] sink sink)
 nothing_written None sink = tt
@@ -95,6 +79,7 @@ either : (expected result : Status) → IsOrNoMemory expected result → (result
 either expected status.NoMemory is = inr refl
 either expected status.Ok is = inl is
 either expected status.Usage is = inl is
+either expected status.Key is = inl is
 either expected (status.BadLine line cause) is = inl is
 either expected status.SourceFault is = inl is
 either expected status.SinkFault is = inl is
@@ -106,16 +91,16 @@ either expected status.TooLarge is = inl is
 
 module _ (files : Option Files) (a b : Option (List ℕ)) (sink sink' : ℕ) where
   no_memory : WhereTold a b (λ x y. y ≡ x) → Prints files a b sink sink' status.NoMemory
-  no_memory told = (part [], tt, nothing_shown files, told_map a b (λ x y. y ≡ x) (ScanWrites status.NoMemory [] sink sink') (λ x y e. (0, omega arith, e ∙ sym (append-nil x))) told)
+  no_memory told = (nothing, tt, nothing_shown files, told_so a b (λ x y. y ≡ x) (ScanWrites status.NoMemory [] sink sink') (λ x y e. (0, omega arith, e ∙ sym (append-nil x))) told)
 
   says_first : (line x y : List ℕ) → Says line sink sink' x y → Says line sink sink' (x ++ []) y
   says_first line x y says = subst (λ (s : List ℕ). Says line sink sink' s y) (sym (append-nil x)) says
 
   no_store : WhereTold a b (Refuses status.StoreFault sink sink') → Prints files a b sink sink' status.StoreFault
-  no_store told = (part [], tt, nothing_shown files, told_map a b (Refuses status.StoreFault sink sink') (ScanWrites status.StoreFault [] sink sink') (says_first (fault_line status.StoreFault)) told)
+  no_store told = (nothing, tt, nothing_shown files, told_so a b (Refuses status.StoreFault sink sink') (ScanWrites status.StoreFault [] sink sink') (says_first (fault_line status.StoreFault)) told)
 
   no_schema : WhereTold a b (Refuses status.Unfinished sink sink') → Prints files a b sink sink' status.Unfinished
-  no_schema told = (part [], refl, nothing_shown files, told_map a b (Refuses status.Unfinished sink sink') (ScanWrites status.Unfinished [] sink sink') (says_first (fault_line status.Unfinished)) told)
+  no_schema told = (nothing, tt, nothing_shown files, told_so a b (Refuses status.Unfinished sink sink') (ScanWrites status.Unfinished [] sink sink') (says_first (fault_line status.Unfinished)) told)
 
   pub refused : (expected result : Status) → (expected ≡ status.StoreFault) ⊎ (expected ≡ status.Unfinished) → IsOrNoMemory expected result → WhereTold a b (Refuses result sink sink') → Prints files a b sink sink' result
   refused expected result which is told =
@@ -131,6 +116,7 @@ either_of expected status.SinkFault is = inr (inl refl)
 either_of expected status.NoMemory is = inr (inr refl)
 either_of expected status.Ok is = inl is
 either_of expected status.Usage is = inl is
+either_of expected status.Key is = inl is
 either_of expected (status.BadLine line cause) is = inl is
 either_of expected status.SourceFault is = inl is
 either_of expected status.StoreFault is = inl is
@@ -144,73 +130,70 @@ ends_either : (expected result : Status) (shown : Shown) → EndsScan expected s
 ends_either expected result shown ends is = ⊎_elim (λ (e : result ≡ expected). subst (λ (r : Status). EndsScan r shown) (sym e) ends)
     (λ t. ⊎_elim (λ (e : result ≡ status.SinkFault). subst (λ (r : Status). EndsScan r shown) (sym e) tt) (λ (e : result ≡ status.NoMemory). subst (λ (r : Status). EndsScan r shown) (sym e) tt) t) (either_of expected result is)
 
-module _ (files : Option Files) (a b c : Option (List ℕ)) (sink mid sink' : ℕ) (before : sink ≤ mid) where
-  behind_shown : (shown : Shown) (pushed text : List ℕ) (expected result : Status) → EndsScan expected shown → IsEither expected result → IfSome files (λ m. IsShown (bytes_of m data_id) shown)
-      → pushed ++ text ≡ shown_text shown → WhereTold a b (λ x y. y ≡ x ++ pushed) → WhereTold b c (ScanWrites result text mid sink') → Prints files a c sink sink' result
-  behind_shown shown pushed text expected result ends is walk whole one two =
-      (shown, ends_either expected result shown ends is, walk, writes_behind pushed text (shown_text shown) whole sink mid sink' before result a b c one two)
+-- the files' schema, and what the walk over them gives
+with_schema : (files : Option Files) (P Q R : Files → Type 0) → ((m : Files) → P m → Q m → R m) → IfSome files P → IfSome files Q → IfSome files R
+with_schema None P Q R f p q = tt
+with_schema (Some m) P Q R f p q = f m p q
 
-  pub end_whole : (scan : Scan) (result : Status) → Scanned files scan a b (Ok None) → IsEither status.Ok result → WhereTold b c (ScanWrites result (scan.text ++ count_line scan.rows) mid sink') → Prints files a c sink sink' result
-  end_whole scan result (pushed, entries, stops, text, count, one) is two =
-      let line : count_line scan.rows ≡ count_line (length entries) = ap count_line count in
-      behind_shown (all entries) pushed (scan.text ++ count_line scan.rows) status.Ok result tt is stops
-      (sym (append_assoc pushed scan.text (count_line scan.rows)) ∙ (ap (λ t. t ++ count_line scan.rows) text ∙ ap (λ t. entry_lines entries ++ t) line)) one two
+module _ (columns : Columns) (files : Option Files) (schema : IfSome files (λ m. IsSchema columns (bytes_of m schema_id))) (a b : Option (List ℕ)) (sink : ℕ) where
+  is_part : (entries : List Entry) → IfSome files (λ m. IsPart columns m entries) → IfSome files (λ m. IsShown m (part columns entries))
+  is_part entries walk = with_schema files (λ m. IsSchema columns (bytes_of m schema_id)) (λ m. IsPart columns m entries) (λ m. IsShown m (part columns entries)) (λ m p q. (p, q)) schema walk
 
-  pub end_damaged : (scan : Scan) (damage : Damage) (result : Status) → Scanned files scan a b (Ok (Some damage)) → IsEither (status.Damaged damage) result → WhereTold b c (ScanWrites result scan.text mid sink') → Prints files a c sink sink' result
-  end_damaged scan damage result (pushed, entries, stops, text, count, one) is two = behind_shown (cut entries damage) pushed scan.text (status.Damaged damage) result refl is stops text one two
+  module _ (c : Option (List ℕ)) (mid sink' : ℕ) (before : sink ≤ mid) where
+    behind_shown : (shown : Shown) (pushed text : List ℕ) (expected result : Status) → EndsScan expected shown → IsEither expected result → IfSome files (λ m. IsShown m shown)
+        → pushed ++ text ≡ shown_text shown → WhereTold a b (λ x y. y ≡ x ++ pushed) → WhereTold b c (ScanWrites result text mid sink') → Prints files a c sink sink' result
+    behind_shown shown pushed text expected result ends is walk whole one two =
+        (shown, ends_either expected result shown ends is, walk, writes_behind pushed text (shown_text shown) whole sink mid sink' before result a b c one two)
 
-  pub end_stopped : (scan : Scan) (result : Status) → Scanned files scan a b (Err scan_error.StoreFault) → IsEither status.StoreFault result → WhereTold b c (ScanWrites result scan.text mid sink') → Prints files a c sink sink' result
-  end_stopped scan result (pushed, entries, walk, text, one) is two = behind_shown (part entries) pushed scan.text status.StoreFault result tt is walk text one two
+    pub end_whole : (scan : Scan) (result : Status) → Scanned columns files scan a b (Ok None) → IsEither status.Ok result → WhereTold b c (ScanWrites result (scan.text ++ count_line scan.rows) mid sink') → Prints files a c sink sink' result
+    end_whole scan result (pushed, entries, stops, text, count, one) is two =
+        let line : count_line scan.rows ≡ count_line (row_count columns entries) = ap count_line count in
+        behind_shown (all columns entries) pushed (scan.text ++ count_line scan.rows) status.Ok result tt is
+        (with_schema files (λ m. IsSchema columns (bytes_of m schema_id)) (λ m. Stops columns (bytes_of m data_id) None 0 entries None) (λ m. IsShown m (all columns entries)) (λ m p q. (p, q)) schema stops)
+        (sym (append_assoc pushed scan.text (count_line scan.rows)) ∙ (ap (λ t. t ++ count_line scan.rows) text ∙ ap (λ t. entry_lines columns entries ++ t) line)) one two
 
-pub end_pushed : (files : Option Files) (a b : Option (List ℕ)) (sink sink' : ℕ) (scan : Scan) → Scanned files scan a b (Err scan_error.SinkFault) → Prints files a b sink sink' status.SinkFault
-end_pushed files a b sink sink' scan (entries, walk, told) = (part entries, tt, walk, told)
+    pub end_damaged : (scan : Scan) (damage : Damage) (result : Status) → Scanned columns files scan a b (Ok (Some damage)) → IsEither (status.Damaged damage) result → WhereTold b c (ScanWrites result scan.text mid sink') → Prints files a c sink sink' result
+    end_damaged scan damage result (pushed, entries, stops, text, count, one) is two = behind_shown (cut columns entries damage) pushed scan.text (status.Damaged damage) result refl is
+        (with_schema files (λ m. IsSchema columns (bytes_of m schema_id)) (λ m. Stops columns (bytes_of m data_id) None 0 entries (Some damage)) (λ m. IsShown m (cut columns entries damage)) (λ m p q. (p, q)) schema stops) text one two
 
-pub end_memory : (files : Option Files) (a b : Option (List ℕ)) (sink sink' : ℕ) (scan : Scan) → Scanned files scan a b (Err scan_error.NoMemory) → Prints files a b sink sink' status.NoMemory
-end_memory files a b sink sink' scan (entries, walk, told) = (part entries, tt, walk, told)
+    pub end_stopped : (scan : Scan) (result : Status) → Scanned columns files scan a b (Err scan_error.StoreFault) → IsEither status.StoreFault result → WhereTold b c (ScanWrites result scan.text mid sink') → Prints files a c sink sink' result
+    end_stopped scan result (pushed, entries, walk, text, one) is two = behind_shown (part columns entries) pushed scan.text status.StoreFault result tt is (is_part entries walk) text one two
+
+  pub end_pushed : (sink' : ℕ) (scan : Scan) → Scanned columns files scan a b (Err scan_error.SinkFault) → Prints files a b sink sink' status.SinkFault
+  end_pushed sink' scan (entries, walk, told) = (part columns entries, tt, is_part entries walk, told)
+
+  pub end_memory : (sink' : ℕ) (scan : Scan) → Scanned columns files scan a b (Err scan_error.NoMemory) → Prints files a b sink sink' status.NoMemory
+  end_memory sink' scan (entries, walk, told) = (part columns entries, tt, is_part entries walk, told)
 
 -- over the files as they were at first
-pub told_first : (now first : Option Files) (scan : Scan) (a b : Option (List ℕ)) (found result : Result (Option Damage) ScanError) → now ≡ first → found ≡ result → Scanned now scan a b found → Scanned first scan a b result
-told_first now first scan a b found result files same scanned = subst (λ (f : Option Files). Scanned f scan a b result) files (subst (λ (r : Result (Option Damage) ScanError). Scanned now scan a b r) same scanned)
+pub told_first : (columns : Columns) (now first : Option Files) (scan : Scan) (a b : Option (List ℕ)) (found result : Result (Option Damage) ScanError) → now ≡ first → found ≡ result
+    → Scanned columns now scan a b found → Scanned columns first scan a b result
+told_first columns now first scan a b found result files same scanned =
+    subst (λ (f : Option Files). Scanned columns f scan a b result) files (subst (λ (r : Result (Option Damage) ScanError). Scanned columns now scan a b r) same scanned)
 
 -- ---- the start
 
-starts : (fs : Option Files) (limit : ℕ) → IfSome fs (λ m. length (bytes_of m data_id) ≡ limit) → IfSome fs (λ m. Continues (bytes_of m data_id) (record { bytes = []; at = 0; limit = limit; whole = false })
-    × Passes first_types (bytes_of m data_id) None 0 [] None 0)
-starts None limit long = tt
-starts (Some m) limit long = (record { rest = bytes_of m data_id; is = refl; ended = λ e. cc; long = long }, record { onward = λ more stop walk. walk; only = λ every stop walk. (every, refl, walk) })
+starts : (columns : Columns) (fs : Option Files) (limit : ℕ) → IfSome fs (λ m. length (bytes_of m data_id) ≡ limit) → IfSome fs (λ m. Continues (bytes_of m data_id) (record { bytes = []; at = 0; limit = limit; whole = false })
+    × Passes columns (bytes_of m data_id) None 0 [] None 0)
+starts columns None limit long = tt
+starts columns (Some m) limit long =
+    (record { rest = bytes_of m data_id; is = refl; ended = λ e. cc; long = long }, record { onward = λ more stop walk. walk; only = λ every stop walk. (every, refl, walk) })
 
-pub fresh : (files : Option Files) (scan : Scan) (limit : ℕ) → scan.walk.window ≡ record { bytes = []; at = 0; limit = limit; whole = false } → inside_of scan.walk ≡ None → scan.text ≡ [] → scan.rows ≡ 0
-    → IfSome files (λ m. length (bytes_of m data_id) ≡ limit) → Holding files scan [] []
-fresh files scan limit window outside text rows long = record {
-  walked = subst (λ (w : Unread). IfSome files (λ m. Continues (bytes_of m data_id) w × Passes first_types (bytes_of m data_id) None 0 [] (inside_of scan.walk) w.at)) (sym window)
-      (subst (λ (o : Option (List ℕ)). IfSome files (λ m. Continues (bytes_of m data_id) (record { bytes = []; at = 0; limit = limit; whole = false }) × Passes first_types (bytes_of m data_id) None 0 [] o 0)) (sym outside) (starts files limit long));
+pub fresh : (columns : Columns) (files : Option Files) (scan : Scan) (limit : ℕ) → scan.walk.window ≡ record { bytes = []; at = 0; limit = limit; whole = false } → inside_of columns scan.walk ≡ None → scan.text ≡ [] → scan.rows ≡ 0
+    → IfSome files (λ m. length (bytes_of m data_id) ≡ limit) → Holding columns files scan [] []
+fresh columns files scan limit window outside text rows long = record {
+  walked = subst (λ (w : Unread). IfSome files (λ m. Continues (bytes_of m data_id) w × Passes columns (bytes_of m data_id) None 0 [] (inside_of columns scan.walk) w.at)) (sym window)
+      (subst (λ (o : Option (List ℕ)). IfSome files (λ m. Continues (bytes_of m data_id) (record { bytes = []; at = 0; limit = limit; whole = false }) × Passes columns (bytes_of m data_id) None 0 [] o 0)) (sym outside) (starts columns files limit long));
   text = text;
   count = rows;
 }
 
--- ---- Schema.txt
-
-whole_one : (file page : List ℕ) (n : ℕ) → length page ≡ 4096 → n ≡ min (length page) (length (drop 0 file)) → take n page ≡ take n (drop 0 file) → IsTrue (bytes_eq (take n page) schema_text) ↔ (file ≡ schema_text)
-whole_one file page n long count same =
-    let size : n ≡ min (length page) (length file) = count in (
-      (λ true. let is : take n page ≡ schema_text = (bytes_eq-Decides (take n page) schema_text).0 true in
-          let short : length (take n file) ≡ 30 = ap length (sym same ∙ is) in
-          sym (take_all n file (omega (arith, short, size, long, length-take n file))) ∙ (sym same ∙ is)),
-      (λ is. (bytes_eq-Decides (take n page) schema_text).1 (same ∙ (take_all n file (omega (arith, size, long, ap length is)) ∙ is))),
-    )
-
-pub whole_told : (files : Option Files) (page : List ℕ) (n : ℕ) (equal : Bool) → length page ≡ 4096 → equal ≡ bytes_eq (take n page) schema_text
-    → IfSome files (λ m. (n ≡ min (length page) (length (drop 0 (bytes_of m schema_id)))) × (take n page ≡ take n (drop 0 (bytes_of m schema_id))) × (length (bytes_of m schema_id) < 2 ^ 62))
-    → IfSome files (λ m. IsTrue equal ↔ (bytes_of m schema_id ≡ schema_text))
-whole_told None page n equal long is read = tt
-whole_told (Some m) page n equal long is read = subst (λ (b : Bool). IsTrue b ↔ (bytes_of m schema_id ≡ schema_text)) (sym is) (whole_one (bytes_of m schema_id) page n long read.0 read.1)
-
 -- ---- files that stand for a map
 
-module _ (types : Types) (none_static : types.static_value ≡ None) where
+module _ (columns : Columns) where
   -- the rows of a partition, its end, and what is behind it
-  rows_walk : (rows : List Row) (key tail : List ℕ) (entries : List Entry) → AreRows types rows → ((at : ℕ) → Walks types None at tail entries None)
-      → (at : ℕ) → Walks types (Some key) at ((rows_bytes rows ++ end_bytes) ++ tail) (row_entries key rows ++ entries) None
+  rows_walk : (rows : List Row) (key tail : List ℕ) (entries : List Entry) → AreRows columns rows → ((at : ℕ) → Walks columns None at tail entries None)
+      → (at : ℕ) → Walks columns (Some key) at ((rows_bytes rows ++ end_bytes) ++ tail) (row_entries key rows ++ entries) None
   rows_walk [] key tail entries are next at = walks.closes at key (0 ∷ tail) tail entries None refl (next (at + 1))
   rows_walk (r ∷ rows) key tail entries (is, are) next at =
       let bytes : ((row_bytes r.clustering r.value ++ rows_bytes rows) ++ end_bytes) ++ tail ≡ row_bytes r.clustering r.value ++ ((rows_bytes rows ++ end_bytes) ++ tail) =
@@ -218,93 +201,125 @@ module _ (types : Types) (none_static : types.static_value ≡ None) where
       walks.row at key r.clustering r.value (((row_bytes r.clustering r.value ++ rows_bytes rows) ++ end_bytes) ++ tail) ((rows_bytes rows ++ end_bytes) ++ tail) (row_entries key rows ++ entries) None is bytes
       (rows_walk rows key tail entries are next (at + length (row_bytes r.clustering r.value)))
 
-  partitions_walk : (partitions : List Partition) → ArePartitions types partitions → (at : ℕ) → Walks types None at (data_bytes None partitions) (entries_in partitions) None
+  parts_in : (h f r tail : List ℕ) → (h ++ (f ++ r)) ++ tail ≡ (h ++ f) ++ (r ++ tail)
+  parts_in h f r tail = simp append_assoc
+
+  partitions_walk : (partitions : List Partition) → ArePartitions columns partitions → (at : ℕ) → Walks columns None at (data_bytes columns.static_value partitions) (entries_in partitions) None
   partitions_walk [] are at = walks.ends at
   partitions_walk (p ∷ partitions) (is, fixed, rows, are) at =
-      let tail : List ℕ = data_bytes None partitions in
-      let bytes : (head_bytes p.key ++ (rows_bytes p.rows ++ end_bytes)) ++ tail ≡ head_bytes p.key ++ ((rows_bytes p.rows ++ end_bytes) ++ tail) =
-      append_assoc (head_bytes p.key) (rows_bytes p.rows ++ end_bytes) tail in
-      walks.head at p.key ((head_bytes p.key ++ (rows_bytes p.rows ++ end_bytes)) ++ tail) ((rows_bytes p.rows ++ end_bytes) ++ tail) (row_entries p.key p.rows ++ entries_in partitions) None is bytes
-      (rows_walk p.rows p.key tail (entries_in partitions) rows (partitions_walk partitions are) (at + length (head_bytes p.key)))
+      let tail : List ℕ = data_bytes columns.static_value partitions in
+      let front : List ℕ = head_bytes p.key ++ fixed_bytes columns.static_value p.fixed in
+      let behind : List ℕ = (rows_bytes p.rows ++ end_bytes) ++ tail in
+      walks.head at p.key p.fixed (partition_bytes columns.static_value p ++ tail) behind (row_entries p.key p.rows ++ entries_in partitions) None is fixed
+      (parts_in (head_bytes p.key) (fixed_bytes columns.static_value p.fixed) (rows_bytes p.rows ++ end_bytes) tail)
+      (rows_walk p.rows p.key tail (entries_in partitions) rows (partitions_walk partitions are) (at + length front))
 
-stands_walk : (file : List ℕ) (rows : List Entry) → Holds first_types file rows → Walks first_types None 0 file rows None
-stands_walk file rows holds = subst (λ (b : List ℕ). Walks first_types None 0 b rows None) (sym holds.listed.0)
-    (subst (λ (es : List Entry). Walks first_types None 0 (data_bytes None holds.partitions) es None) holds.same (partitions_walk first_types refl holds.partitions holds.listed.1 0))
+  stands_walk : (file : List ℕ) (rows : List Entry) → Holds columns file rows → Walks columns None 0 file rows None
+  stands_walk file rows holds = subst (λ (b : List ℕ). Walks columns None 0 b rows None) (sym holds.listed.0)
+      (subst (λ (es : List Entry). Walks columns None 0 (data_bytes columns.static_value holds.partitions) es None) holds.same (partitions_walk holds.partitions holds.listed.1 0))
 
 -- a longer text has the prefix too
 prefix_longer : (text rest x y : List ℕ) → AppendsPrefix text x y → AppendsPrefix (text ++ rest) x y
 prefix_longer text rest x y (k, short, e) = (k, omega (arith, length-append text rest), e ∙ ap (λ t. x ++ t) (sym (take-append-le k text rest short)))
 
-rows_more : (rows front rest : List Entry) → rows ≡ front ++ rest → rows_text rows ≡ entry_lines front ++ (entry_lines rest ++ count_line (length rows))
-rows_more rows front rest e = ap (λ t. t ++ count_line (length rows)) (ap entry_lines e ∙ lines_append front rest) ∙ append_assoc (entry_lines front) (entry_lines rest) (count_line (length rows))
+module _ (columns : Columns) where
+  rows_more : (rows front rest : List Entry) → rows ≡ front ++ rest → rows_text columns rows ≡ entry_lines columns front ++ (entry_lines columns rest ++ count_line (row_count columns rows))
+  rows_more rows front rest e =
+      ap (λ t. t ++ count_line (row_count columns rows)) (ap (entry_lines columns) e ∙ lines_append columns front rest)
+      ∙ append_assoc (entry_lines columns front) (entry_lines columns rest) (count_line (row_count columns rows))
 
-module _ (file : List ℕ) (rows : List Entry) (walk : Walks first_types None 0 file rows None) where
-  part_rows : (front : List Entry) → IsShown file (part front) → (rest : List Entry) × (rows ≡ front ++ rest)
-  part_rows front (inside, at, passes) = let found = passes.only rows None walk in (found.0, found.1)
+module _ (files : Files) (columns : Columns) (rows : List Entry) (schema : IsSchema columns (bytes_of files schema_id)) (walk : Walks columns None 0 (bytes_of files data_id) rows None) where
+  -- the columns that were read are those of the schema
+  part_rows : (read : Columns) (front : List Entry) → IsShown files (part read front) → (rest : List Entry) × (rows ≡ front ++ rest)
+  part_rows read front (is, (inside, at, passes)) =
+      let found = passes.only rows None (subst (λ (c : Columns). Walks c None 0 (bytes_of files data_id) rows None) (one_schema (bytes_of files schema_id) columns read schema is) walk) in (found.0, found.1)
 
-  all_rows : (found : List Entry) → IsShown file (all found) → rows ≡ found
-  all_rows found stops = (stops.only rows None walk).0
+  all_rows : (read : Columns) (found : List Entry) → IsShown files (all read found) → rows ≡ found
+  all_rows read found (is, stops) =
+      (stops.only rows None (subst (λ (c : Columns). Walks c None 0 (bytes_of files data_id) rows None) (one_schema (bytes_of files schema_id) columns read schema is) walk)).0
 
-  no_cut : (found : List Entry) (damage : Damage) → IsShown file (cut found damage) → ⊥
-  no_cut found damage stops = let same : None ≡ Some damage = (stops.only rows None walk).1 in cc
+  no_cut : (read : Columns) (found : List Entry) (damage : Damage) → IsShown files (cut read found damage) → ⊥
+  no_cut read found damage (is, stops) =
+      let same : None ≡ Some damage =
+      (stops.only rows None (subst (λ (c : Columns). Walks c None 0 (bytes_of files data_id) rows None) (one_schema (bytes_of files schema_id) columns read schema is) walk)).1 in cc
 
-  prefix_of : (shown : Shown) (x y : List ℕ) → IsShown file shown → AppendsPrefix (shown_text shown) x y → AppendsPrefix (rows_text rows) x y
-  prefix_of (part front) x y is prefix = let found = part_rows front is in
-      subst (λ (t : List ℕ). AppendsPrefix t x y) (sym (rows_more rows front found.0 found.1)) (prefix_longer (entry_lines front) (entry_lines found.0 ++ count_line (length rows)) x y prefix)
-  prefix_of (all found) x y is prefix = subst (λ (es : List Entry). AppendsPrefix (rows_text es) x y) (sym (all_rows found is)) prefix
-  prefix_of (cut found damage) x y is prefix = absurd (no_cut found damage is)
+  read_as : (read : Columns) → IsSchema read (bytes_of files schema_id) → read ≡ columns
+  read_as read is = one_schema (bytes_of files schema_id) read columns is schema
 
-  prints_one : (result : Status) (shown : Shown) (sink sink' : ℕ) (x y : List ℕ) → EndsScan result shown → (result ≡ status.Unfinished → ⊥) → IsShown file shown
-      → ScanWrites result (shown_text shown) sink sink' x y → ScanPrints result rows sink sink' x y
-  prints_one status.Ok (all found) sink sink' x y ends sound is writes = subst (λ (es : List Entry). y ≡ x ++ rows_text es) (sym (all_rows found is)) writes
-  prints_one status.Ok (part found) sink sink' x y ends sound is writes = absurd ends
-  prints_one status.Ok (cut found damage) sink sink' x y ends sound is writes = absurd ends
+  nothing_prefix : (text x y : List ℕ) → AppendsPrefix [] x y → AppendsPrefix text x y
+  nothing_prefix text x y (k, short, e) = (0, omega arith, e ∙ ap (λ (t : List ℕ). x ++ t) (take-nil k))
+
+  prefix_of : (shown : Shown) (x y : List ℕ) → IsShown files shown → AppendsPrefix (shown_text shown) x y → AppendsPrefix (rows_text columns rows) x y
+  prefix_of nothing x y is prefix = nothing_prefix (rows_text columns rows) x y prefix
+  prefix_of (part read front) x y is prefix =
+      let found = part_rows read front is in
+      subst (λ (t : List ℕ). AppendsPrefix t x y) (sym (rows_more columns rows front found.0 found.1))
+      (prefix_longer (entry_lines columns front) (entry_lines columns found.0 ++ count_line (row_count columns rows)) x y
+      (subst (λ (c : Columns). AppendsPrefix (entry_lines c front) x y) (read_as read is.0) prefix))
+  prefix_of (all read found) x y is prefix =
+      subst (λ (es : List Entry). AppendsPrefix (rows_text columns es) x y) (sym (all_rows read found is)) (subst (λ (c : Columns). AppendsPrefix (rows_text c found) x y) (read_as read is.0) prefix)
+  prefix_of (cut read found damage) x y is prefix = absurd (no_cut read found damage is)
+
+  prints_one : (result : Status) (shown : Shown) (sink sink' : ℕ) (x y : List ℕ) → EndsScan result shown → (result ≡ status.Unfinished → ⊥) → IsShown files shown
+      → ScanWrites result (shown_text shown) sink sink' x y → ScanPrints columns result rows sink sink' x y
+  prints_one status.Ok (all read found) sink sink' x y ends sound is writes =
+      subst (λ (es : List Entry). y ≡ x ++ rows_text columns es) (sym (all_rows read found is)) (subst (λ (c : Columns). y ≡ x ++ rows_text c found) (read_as read is.0) writes)
+  prints_one status.Ok nothing sink sink' x y ends sound is writes = absurd ends
+  prints_one status.Ok (part read found) sink sink' x y ends sound is writes = absurd ends
+  prints_one status.Ok (cut read found damage) sink sink' x y ends sound is writes = absurd ends
   prints_one status.SinkFault shown sink sink' x y ends sound is writes = prefix_of shown x y is writes
   prints_one status.NoMemory shown sink sink' x y ends sound is writes = prefix_of shown x y is writes
-  prints_one status.StoreFault (part front) sink sink' x y ends sound is writes = let found = part_rows front is in (front, found.0, found.1, writes)
-  prints_one status.StoreFault (all found) sink sink' x y ends sound is writes = absurd ends
-  prints_one status.StoreFault (cut found damage) sink sink' x y ends sound is writes = absurd ends
-  prints_one (status.Damaged damage) (cut found place) sink sink' x y ends sound is writes = absurd (no_cut found place is)
-  prints_one (status.Damaged damage) (part found) sink sink' x y ends sound is writes = absurd ends
-  prints_one (status.Damaged damage) (all found) sink sink' x y ends sound is writes = absurd ends
+  prints_one status.StoreFault nothing sink sink' x y ends sound is writes = ([], rows, refl, writes)
+  prints_one status.StoreFault (part read front) sink sink' x y ends sound is writes =
+      let found = part_rows read front is in
+      (front, found.0, found.1, subst (λ (c : Columns). Says (fault_line status.StoreFault) sink sink' (x ++ entry_lines c front) y) (read_as read is.0) writes)
+  prints_one status.StoreFault (all read found) sink sink' x y ends sound is writes = absurd ends
+  prints_one status.StoreFault (cut read found damage) sink sink' x y ends sound is writes = absurd ends
+  prints_one (status.Damaged damage) (cut read found place) sink sink' x y ends sound is writes = absurd (no_cut read found place is)
+  prints_one (status.Damaged damage) nothing sink sink' x y ends sound is writes = absurd ends
+  prints_one (status.Damaged damage) (part read found) sink sink' x y ends sound is writes = absurd ends
+  prints_one (status.Damaged damage) (all read found) sink sink' x y ends sound is writes = absurd ends
   prints_one status.Unfinished shown sink sink' x y ends sound is writes = absurd (sound refl)
   prints_one status.Usage shown sink sink' x y ends sound is writes = absurd ends
+  prints_one status.Key shown sink sink' x y ends sound is writes = absurd ends
   prints_one (status.BadLine line cause) shown sink sink' x y ends sound is writes = absurd ends
   prints_one status.SourceFault shown sink sink' x y ends sound is writes = absurd ends
   prints_one status.Exists shown sink sink' x y ends sound is writes = absurd ends
   prints_one status.TooLarge shown sink sink' x y ends sound is writes = absurd ends
 
-  ends_well : (result : Status) (shown : Shown) (store store' sink sink' : ℕ) → EndsScan result shown → (result ≡ status.Unfinished → ⊥) → IsShown file shown
+  ends_well : (result : Status) (shown : Shown) (store store' sink sink' : ℕ) → EndsScan result shown → (result ≡ status.Unfinished → ⊥) → IsShown files shown
       → (result ≡ status.StoreFault → Rose store store') → (result ≡ status.SinkFault → Rose sink sink') → ¬ (Rose store store') → ¬ (Rose sink sink') → IsOrNoMemory status.Ok result
   ends_well status.Ok shown store store' sink sink' ends sound is store_fault sink_fault quiet still = refl
   ends_well status.NoMemory shown store store' sink sink' ends sound is store_fault sink_fault quiet still = tt
   ends_well status.SinkFault shown store store' sink sink' ends sound is store_fault sink_fault quiet still = absurd (still (sink_fault refl))
   ends_well status.StoreFault shown store store' sink sink' ends sound is store_fault sink_fault quiet still = absurd (quiet (store_fault refl))
-  ends_well (status.Damaged damage) (cut found place) store store' sink sink' ends sound is store_fault sink_fault quiet still = absurd (no_cut found place is)
-  ends_well (status.Damaged damage) (part found) store store' sink sink' ends sound is store_fault sink_fault quiet still = absurd ends
-  ends_well (status.Damaged damage) (all found) store store' sink sink' ends sound is store_fault sink_fault quiet still = absurd ends
+  ends_well (status.Damaged damage) (cut read found place) store store' sink sink' ends sound is store_fault sink_fault quiet still = absurd (no_cut read found place is)
+  ends_well (status.Damaged damage) nothing store store' sink sink' ends sound is store_fault sink_fault quiet still = absurd ends
+  ends_well (status.Damaged damage) (part read found) store store' sink sink' ends sound is store_fault sink_fault quiet still = absurd ends
+  ends_well (status.Damaged damage) (all read found) store store' sink sink' ends sound is store_fault sink_fault quiet still = absurd ends
   ends_well status.Unfinished shown store store' sink sink' ends sound is store_fault sink_fault quiet still = absurd (sound refl)
   ends_well status.Usage shown store store' sink sink' ends sound is store_fault sink_fault quiet still = absurd ends
+  ends_well status.Key shown store store' sink sink' ends sound is store_fault sink_fault quiet still = absurd ends
   ends_well (status.BadLine line cause) shown store store' sink sink' ends sound is store_fault sink_fault quiet still = absurd ends
   ends_well status.SourceFault shown store store' sink sink' ends sound is store_fault sink_fault quiet still = absurd ends
   ends_well status.Exists shown store store' sink sink' ends sound is store_fault sink_fault quiet still = absurd ends
   ends_well status.TooLarge shown store store' sink sink' ends sound is store_fault sink_fault quiet still = absurd ends
 
 module _ (store store' : ℕ) (a b : Option (List ℕ)) (sink sink' : ℕ) (result : Status) (store_fault : result ≡ status.StoreFault → Rose store store') (sink_fault : result ≡ status.SinkFault → Rose sink sink') where
-  stand_all : (files : Option Files) → IfSome files (λ m. result ≡ status.Unfinished → bytes_of m schema_id ≢ schema_text) → Prints files a b sink sink' result
-      → IfSome files (λ m. (rows : List Entry) → StandFor m rows → WhereTold a b (ScanPrints result rows sink sink'))
+  stand_all : (files : Option Files) → IfSome files (λ m. result ≡ status.Unfinished → ¬ (IsWhole (bytes_of m schema_id))) → Prints files a b sink sink' result
+      → IfSome files (λ m. (columns : Columns) (rows : List Entry) → StandFor m columns rows → WhereTold a b (ScanPrints columns result rows sink sink'))
   stand_all None unfinished prints = tt
-  stand_all (Some m) unfinished (shown, ends, is, told) = λ rows stand.
-      told_map a b (ScanWrites result (shown_text shown) sink sink') (ScanPrints result rows sink sink')
-      (λ x y writes. prints_one (bytes_of m data_id) rows (stands_walk (bytes_of m data_id) rows stand.held) result shown sink sink' x y ends (λ u. unfinished u stand.schema) is writes) told
+  stand_all (Some m) unfinished (shown, ends, is, told) = λ columns rows stand.
+      told_so a b (ScanWrites result (shown_text shown) sink sink') (ScanPrints columns result rows sink sink')
+      (λ x y writes. prints_one m columns rows stand.schema (stands_walk columns (bytes_of m data_id) rows stand.held) result shown sink sink' x y ends (λ u. unfinished u (columns, stand.schema)) is writes) told
 
-  complete_all : (files : Option Files) → IfSome files (λ m. result ≡ status.Unfinished → bytes_of m schema_id ≢ schema_text) → Prints files a b sink sink' result
-      → IfSome files (λ m. (rows : List Entry) → StandFor m rows → ¬ (Rose store store') → ¬ (Rose sink sink') → IsOrNoMemory status.Ok result)
+  complete_all : (files : Option Files) → IfSome files (λ m. result ≡ status.Unfinished → ¬ (IsWhole (bytes_of m schema_id))) → Prints files a b sink sink' result
+      → IfSome files (λ m. (columns : Columns) (rows : List Entry) → StandFor m columns rows → ¬ (Rose store store') → ¬ (Rose sink sink') → IsOrNoMemory status.Ok result)
   complete_all None unfinished prints = tt
-  complete_all (Some m) unfinished (shown, ends, is, told) = λ rows stand quiet still.
-      ends_well (bytes_of m data_id) rows (stands_walk (bytes_of m data_id) rows stand.held) result shown store store' sink sink' ends (λ u. unfinished u stand.schema) is store_fault sink_fault quiet still
+  complete_all (Some m) unfinished (shown, ends, is, told) = λ columns rows stand quiet still.
+      ends_well m columns rows stand.schema (stands_walk columns (bytes_of m data_id) rows stand.held) result shown store store' sink sink' ends (λ u. unfinished u (columns, stand.schema)) is store_fault sink_fault quiet still
 
-  pub scan_ends : (files : Option Files) → IfSome files (λ m. result ≡ status.Unfinished → bytes_of m schema_id ≢ schema_text) → IfSome files (λ m. bytes_of m schema_id ≢ schema_text → IsUnfinished result)
+  pub scan_ends : (files : Option Files) → IfSome files (λ m. result ≡ status.Unfinished → ¬ (IsWhole (bytes_of m schema_id))) → IfSome files (λ m. ¬ (IsWhole (bytes_of m schema_id)) → IsUnfinished result)
       → Prints files a b sink sink' result → ScanEnds files store store' a b sink sink' result
   scan_ends files unfinished whole prints = record {
     store_fault = store_fault;
@@ -321,21 +336,20 @@ module _ (store store' : ℕ) (a b : Option (List ℕ)) (sink sink' : ℕ) (resu
 not_of : (expected result other : Status) → IsOrNoMemory expected result → (expected ≡ other → ⊥) → (status.NoMemory ≡ other → ⊥) → result ≡ other → ⊥
 not_of expected result other is apart memory e = ⊎_elim (λ (t : result ≡ expected). apart (sym t ∙ e)) (λ (t : result ≡ status.NoMemory). memory (sym t ∙ e)) (either expected result is)
 
-pub whole_schema : (files : Option Files) (whole : Bool) (result : Status) → whole ≡ true → IfSome files (λ m. IsTrue whole ↔ (bytes_of m schema_id ≡ schema_text))
-    → IfSome files (λ m. bytes_of m schema_id ≢ schema_text → IsUnfinished result)
-whole_schema None whole result is told = tt
-whole_schema (Some m) whole result is told = λ ne. absurd (ne (told.0 is))
+pub whole_schema : (files : Option Files) (columns : Columns) (result : Status) → IfSome files (λ m. IsSchema columns (bytes_of m schema_id))
+    → IfSome files (λ m. ¬ (IsWhole (bytes_of m schema_id)) → IsUnfinished result)
+whole_schema None columns result is = tt
+whole_schema (Some m) columns result is = λ torn. absurd (torn (columns, is))
 
-pub not_found : (files : Option Files) (result : Status) → (result ≡ status.Unfinished → ⊥) → IfSome files (λ m. result ≡ status.Unfinished → bytes_of m schema_id ≢ schema_text)
+pub not_found : (files : Option Files) (result : Status) → (result ≡ status.Unfinished → ⊥) → IfSome files (λ m. result ≡ status.Unfinished → ¬ (IsWhole (bytes_of m schema_id)))
 not_found None result other = tt
 not_found (Some m) result other = λ is. absurd (other is)
 
-no_whole : (files : Option Files) (whole : Bool) (result : Status) → whole ≡ false → IfSome files (λ m. IsTrue whole ↔ (bytes_of m schema_id ≡ schema_text))
-    → IfSome files (λ m. result ≡ status.Unfinished → bytes_of m schema_id ≢ schema_text)
-no_whole None whole result is told = tt
-no_whole (Some m) whole result is told = λ u e. let both : true ≡ false = sym (told.1 e) ∙ is in cc
+no_whole : (files : Option Files) (result : Status) → IfSome files (λ m. ¬ (IsWhole (bytes_of m schema_id))) → IfSome files (λ m. result ≡ status.Unfinished → ¬ (IsWhole (bytes_of m schema_id)))
+no_whole None result torn = tt
+no_whole (Some m) result torn = λ u. torn
 
-allowed : (files : Option Files) (result : Status) → IsUnfinished result → IfSome files (λ m. bytes_of m schema_id ≢ schema_text → IsUnfinished result)
+allowed : (files : Option Files) (result : Status) → IsUnfinished result → IfSome files (λ m. ¬ (IsWhole (bytes_of m schema_id)) → IsUnfinished result)
 allowed None result is = tt
 allowed (Some m) result is = λ ne. is
 
@@ -343,17 +357,17 @@ is_allowed : (expected result : Status) → IsUnfinished expected → IsOrNoMemo
 is_allowed expected result allow is = ⊎_elim (λ (t : result ≡ expected). subst (λ (s : Status). IsUnfinished s) (sym t) allow) (λ (t : result ≡ status.NoMemory). subst (λ (s : Status). IsUnfinished s) (sym t) tt) (either expected result is)
 
 module _ (store store' : ℕ) (files : Option Files) (a b : Option (List ℕ)) (sink sink' : ℕ) (result : Status) (told : WhereTold a b (Refuses result sink sink')) where
-  pub unfinished_ends : (whole : Bool) → whole ≡ false → IfSome files (λ m. IsTrue whole ↔ (bytes_of m schema_id ≡ schema_text)) → IsOrNoMemory status.Unfinished result → ScanEnds files store store' a b sink sink' result
-  unfinished_ends whole torn schema is = scan_ends store store' a b sink sink' result
+  pub unfinished_ends : IfSome files (λ m. ¬ (IsWhole (bytes_of m schema_id))) → IsOrNoMemory status.Unfinished result → ScanEnds files store store' a b sink sink' result
+  unfinished_ends torn is = scan_ends store store' a b sink sink' result
       (λ e. absurd (not_of status.Unfinished result status.StoreFault is (λ t. cc) (λ t. cc) e)) (λ e. absurd (not_of status.Unfinished result status.SinkFault is (λ t. cc) (λ t. cc) e))
-      files (no_whole files whole result torn schema) (allowed files result (is_allowed status.Unfinished result tt is)) (refused files a b sink sink' status.Unfinished result (inr refl) is told)
+      files (no_whole files result torn) (allowed files result (is_allowed status.Unfinished result tt is)) (refused files a b sink sink' status.Unfinished result (inr refl) is told)
 
   pub fault_ends : Rose store store' → IsOrNoMemory status.StoreFault result → ScanEnds files store store' a b sink sink' result
   fault_ends rose is = scan_ends store store' a b sink sink' result
       (λ e. rose) (λ e. absurd (not_of status.StoreFault result status.SinkFault is (λ t. cc) (λ t. cc) e))
       files (not_found files result (not_of status.StoreFault result status.Unfinished is (λ t. cc) (λ t. cc))) (allowed files result (is_allowed status.StoreFault result tt is)) (refused files a b sink sink' status.StoreFault result (inl refl) is told)
 
--- want of memory before anything was asked
-pub no_memory_ends : (files : Option Files) (store : ℕ) (written : Option (List ℕ)) (sink : ℕ) → ScanEnds files store store written written sink sink status.NoMemory
-no_memory_ends files store written sink = scan_ends store store written written sink sink status.NoMemory (λ e. cc) (λ e. cc) files (not_found files status.NoMemory (λ e. cc))
-    (allowed files status.NoMemory tt) (part [], tt, nothing_shown files, nothing_written written sink)
+-- want of memory before anything was printed
+pub no_memory_ends : (files : Option Files) (store store' : ℕ) (written : Option (List ℕ)) (sink : ℕ) → ScanEnds files store store' written written sink sink status.NoMemory
+no_memory_ends files store store' written sink = scan_ends store store' written written sink sink status.NoMemory (λ e. cc) (λ e. cc) files (not_found files status.NoMemory (λ e. cc))
+    (allowed files status.NoMemory tt) (nothing, tt, nothing_shown files, nothing_written written sink)

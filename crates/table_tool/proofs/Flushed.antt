@@ -1,16 +1,17 @@
 -- The files of a table, put into a store one behind the other.
 use Rattle.std.proofs.Common.{◌≡◌, ◌≢◌, ℕ, ◌<◌, ◌^◌, Bool, true, false, ◌||◌, List, [], ◌++◌, length, take, drop, Option, None, Some, Result, Ok, Err, IsErr, IfSome, inl, inr, unwrap_or, refl, sym, ◌∙◌, ap, subst, arith}
-use Rattle.std.proofs.lemmas.List.{take-append-drop}
+use Rattle.std.proofs.lemmas.List.{append-nil, take-append-drop}
 use Rattle.std.specs.Prelude.{is_some}
 use Rattle.std.specs.FinMap as map
 use Rattle.outside.specs.Told.{WhereTold}
 use Rattle.outside.specs.Files.{Files, LeavesPrefix, bytes_of, place_of}
 use Rattle.outside.specs.declared.store.FileId.{FileId}
+use Rattle.key_types.specs.Columns.{Columns}
 use Rattle.key_types.specs.Table.{Entry}
 use Rattle.data_file.specs.Writing.{PutsAllBut}
-use Rattle.table_tool.specs.Standing.{data_id, partitions_id, rows_id, schema_id, schema_text, first_types, Holds, StandFor}
+use Rattle.table_tool.specs.Standing.{AreColumns, data_id, partitions_id, rows_id, schema_id, schema_text, Holds, StandFor}
 use Rattle.table_tool.specs.Loading.{Adds, Begun, Flushes, NoneThere, Reaches, Started, is_there, one_there}
-use Rattle.table_tool.proofs.Writes.{PutSome, Set, bytes_of-other, bytes_of-same, told_so, told_then}
+use Rattle.table_tool.proofs.Writes.{PutSome, Set, bytes_of-other, bytes_of-same, told_none, told_so, told_then}
 
 schema_apart : schema_id ≢ data_id
 schema_apart e = let no : ◌≡◌ {A = ℕ} 3 0 = ap (λ (f : FileId). place_of f.part) e in omega arith
@@ -18,40 +19,11 @@ schema_apart e = let no : ◌≡◌ {A = ℕ} 3 0 = ap (λ (f : FileId). place_o
 data_apart : data_id ≢ schema_id
 data_apart e = schema_apart (sym e)
 
--- ---- a prefix of them
-
--- the file of the data failed
-pub data_stopped : (f0 f1 : Option Files) (bytes : List ℕ) → PutSome f0 f1 data_id bytes → WhereTold f0 f1 (Reaches bytes)
-data_stopped f0 f1 bytes some = told_so f0 f1 _ _ (λ xs ys p. inl p) some
-
--- the file of the schema failed
-pub schema_stopped : (f0 f1 f2 : Option Files) (bytes : List ℕ) → Set f0 f1 data_id bytes → WhereTold f1 f2 (λ ys zs. LeavesPrefix ys zs schema_id schema_text) → WhereTold f0 f2 (Reaches bytes)
-schema_stopped f0 f1 f2 bytes set append =
-    told_then f0 f1 f2 _ _ _ (λ xs ys zs p q. inr (subst (λ (m : Files). LeavesPrefix m zs schema_id schema_text) p q)) set append
-
-pub failed_flush : {T E : Type 0} (f0 f1 : Option Files) (r : Result T E) (bytes : List ℕ) → IsErr r → WhereTold f0 f1 (Reaches bytes) → Flushes f0 f1 r bytes
-failed_flush f0 f1 (Ok x) bytes bad stopped = cc
-failed_flush f0 f1 (Err e) bytes bad stopped = stopped
-
--- ---- both files
-
 -- both were put, behind what was there
-abbrev pub Sets : List ℕ → Files → Files → Type 0
-Sets bytes old new = new ≡ map.insert (map.insert old data_id (bytes_of old data_id ++ bytes)) schema_id (bytes_of old schema_id ++ schema_text)
+abbrev pub Sets : Columns → List ℕ → Files → Files → Type 0
+Sets columns bytes old new = new ≡ map.insert (map.insert old data_id (bytes_of old data_id ++ bytes)) schema_id (bytes_of old schema_id ++ schema_text columns)
 
-both_set : (xs ys zs : Files) (bytes : List ℕ) → ys ≡ map.insert xs data_id (bytes_of xs data_id ++ bytes) → zs ≡ map.insert ys schema_id (bytes_of ys schema_id ++ schema_text) → Sets bytes xs zs
-both_set xs ys zs bytes first second =
-    let made : Files = map.insert xs data_id (bytes_of xs data_id ++ bytes) in
-    second
-    ∙ ap (λ (m : Files). map.insert m schema_id (bytes_of m schema_id ++ schema_text)) first
-    ∙ ap (λ (bs : List ℕ). map.insert made schema_id (bs ++ schema_text)) (bytes_of-other xs data_id (bytes_of xs data_id ++ bytes) schema_id schema_apart)
-
-pub flushed : (f0 f1 f2 : Option Files) (bytes : List ℕ) → Set f0 f1 data_id bytes
-    → WhereTold f1 f2 (λ ys zs. (zs ≡ map.insert ys schema_id (bytes_of ys schema_id ++ schema_text)) × (length (bytes_of ys schema_id ++ schema_text) < 2 ^ 62))
-    → WhereTold f0 f2 (Sets bytes)
-flushed f0 f1 f2 bytes set append = told_then f0 f1 f2 _ _ _ (λ xs ys zs p q. both_set xs ys zs bytes p q.0) set append
-
--- ---- where none was there
+-- ---- where the files are told
 
 told_from : {A : Type 0} (f0 f1 : Option A) (P : A → Type 0) (Q R : A → A → Type 0) → ((x y : A) → P x → Q x y → R x y) → IfSome f0 P → WhereTold f0 f1 Q → WhereTold f0 f1 R
 told_from None None P Q R step p q = tt
@@ -64,6 +36,8 @@ told_end None None Q S step q = tt
 told_end None (Some y) Q S step q = absurd q
 told_end (Some x) None Q S step q = absurd q
 told_end (Some x) (Some y) Q S step q = step x y q
+
+-- ---- where none was there
 
 neither : (a b : Bool) → (a || b) ≡ false → (a ≡ false) × (b ≡ false)
 neither true b e = cc
@@ -83,52 +57,88 @@ no_schema : (old : Files) → one_there old ≡ false → bytes_of old schema_id
 no_schema old e =
     no_bytes (map.get old schema_id) (neither (is_there old data_id || is_there old partitions_id || is_there old rows_id) (is_there old schema_id) e).1
 
-sets_adds : (bytes : List ℕ) (old new : Files) → one_there old ≡ false → Sets bytes old new → Adds bytes old new
-sets_adds bytes old new none is =
-    is
-    ∙ ap (λ (bs : List ℕ). map.insert (map.insert old data_id (bs ++ bytes)) schema_id (bytes_of old schema_id ++ schema_text)) (no_data old none)
-    ∙ ap (λ (bs : List ℕ). map.insert (map.insert old data_id bytes) schema_id (bs ++ schema_text)) (no_schema old none)
+module _ (columns : Columns) where
+  -- ---- a prefix of them
 
-pub added : (f0 f1 : Option Files) (bytes : List ℕ) → NoneThere f0 → WhereTold f0 f1 (Sets bytes) → WhereTold f0 f1 (Adds bytes)
-added f0 f1 bytes none sets = told_from f0 f1 _ _ _ (λ old new p q. sets_adds bytes old new p q) none sets
+  -- nothing was put
+  pub nothing_flushed : (f : Option Files) (bytes : List ℕ) → WhereTold f f (Reaches columns bytes)
+  nothing_flushed f bytes = told_none f _ (λ xs. inl (bytes, ([], refl, inr (refl, refl))))
 
--- ---- how far they came, where none was there
+  -- the file of the data failed
+  pub data_stopped : (f0 f1 : Option Files) (bytes : List ℕ) → PutSome f0 f1 data_id bytes → WhereTold f0 f1 (Reaches columns bytes)
+  data_stopped f0 f1 bytes some = told_so f0 f1 _ _ (λ xs ys p. inl p) some
 
-data_started : (bytes : List ℕ) (old new : Files) (left : List ℕ) → one_there old ≡ false → PutsAllBut old new data_id bytes left → Started data_id bytes old new
-data_started bytes old new left none (front, e, inl is) = inr (front, left, e, is ∙ ap (λ (bs : List ℕ). map.insert old data_id (bs ++ front)) (no_data old none))
-data_started bytes old new left none (front, e, inr (nothing, same)) = inl same
+  -- the file of the schema failed
+  pub schema_stopped : (f0 f1 f2 : Option Files) (bytes text : List ℕ) → text ≡ schema_text columns → Set f0 f1 data_id bytes → WhereTold f1 f2 (λ ys zs. LeavesPrefix ys zs schema_id text)
+      → WhereTold f0 f2 (Reaches columns bytes)
+  schema_stopped f0 f1 f2 bytes text is set append =
+      told_then f0 f1 f2 _ _ _
+      (λ xs ys zs p q. inr (subst (λ (m : Files). LeavesPrefix m zs schema_id (schema_text columns)) p (subst (λ (t : List ℕ). LeavesPrefix ys zs schema_id t) is q))) set append
 
-schema_started : (bytes : List ℕ) (old new : Files) → one_there old ≡ false → LeavesPrefix (map.insert old data_id bytes) new schema_id schema_text
-    → Started schema_id schema_text (map.insert old data_id bytes) new
-schema_started bytes old new none (inl same) = inl same
-schema_started bytes old new none (inr (k, few, is)) =
-    let made : Files = map.insert old data_id bytes in
-    inr (
-      take k schema_text,
-      drop k schema_text,
-      sym (take-append-drop k schema_text),
-      is ∙ ap (λ (bs : List ℕ). map.insert made schema_id (bs ++ take k schema_text)) (bytes_of-other old data_id bytes schema_id schema_apart ∙ no_schema old none),
-    )
+  pub failed_flush : {T E : Type 0} (f0 f1 : Option Files) (r : Result T E) (bytes : List ℕ) → IsErr r → WhereTold f0 f1 (Reaches columns bytes) → Flushes columns f0 f1 r bytes
+  failed_flush f0 f1 (Ok x) bytes bad stopped = cc
+  failed_flush f0 f1 (Err e) bytes bad stopped = stopped
 
-reaches_begins : (bytes : List ℕ) (old new : Files) → one_there old ≡ false → Reaches bytes old new → Begun bytes old new
-reaches_begins bytes old new none (inl (left, put)) = inl (data_started bytes old new left none put)
-reaches_begins bytes old new none (inr put) =
-    inr (schema_started bytes old new none (subst (λ (bs : List ℕ). LeavesPrefix (map.insert old data_id (bs ++ bytes)) new schema_id schema_text) (no_data old none) put))
+  -- ---- both files
 
-pub reached : (f0 f1 : Option Files) (bytes : List ℕ) → NoneThere f0 → WhereTold f0 f1 (Reaches bytes) → WhereTold f0 f1 (Begun bytes)
-reached f0 f1 bytes none reaches = told_from f0 f1 _ _ _ (λ old new p q. reaches_begins bytes old new p q) none reaches
+  both_set : (xs ys zs : Files) (bytes : List ℕ) → ys ≡ map.insert xs data_id (bytes_of xs data_id ++ bytes) → zs ≡ map.insert ys schema_id (bytes_of ys schema_id ++ schema_text columns) → Sets columns bytes xs zs
+  both_set xs ys zs bytes first second =
+      let made : Files = map.insert xs data_id (bytes_of xs data_id ++ bytes) in
+      second
+      ∙ ap (λ (m : Files). map.insert m schema_id (bytes_of m schema_id ++ schema_text columns)) first
+      ∙ ap (λ (bs : List ℕ). map.insert made schema_id (bs ++ schema_text columns)) (bytes_of-other xs data_id (bytes_of xs data_id ++ bytes) schema_id schema_apart)
 
-pub adds_begin : (f0 f1 : Option Files) (bytes : List ℕ) → WhereTold f0 f1 (Adds bytes) → WhereTold f0 f1 (Begun bytes)
-adds_begin f0 f1 bytes adds = told_so f0 f1 _ _ (λ old new is. inr (inr (schema_text, [], refl, is))) adds
+  pub flushed : (f0 f1 f2 : Option Files) (bytes text : List ℕ) → text ≡ schema_text columns → Set f0 f1 data_id bytes
+      → WhereTold f1 f2 (λ ys zs. (zs ≡ map.insert ys schema_id (bytes_of ys schema_id ++ text)) × (length (bytes_of ys schema_id ++ text) < 2 ^ 62)) → WhereTold f0 f2 (Sets columns bytes)
+  flushed f0 f1 f2 bytes text is set append =
+      told_then f0 f1 f2 _ _ _ (λ xs ys zs p q. both_set xs ys zs bytes p (subst (λ (t : List ℕ). zs ≡ map.insert ys schema_id (bytes_of ys schema_id ++ t)) is q.0)) set append
 
--- ---- they stand
+  sets_adds : (bytes : List ℕ) (old new : Files) → one_there old ≡ false → Sets columns bytes old new → Adds columns bytes old new
+  sets_adds bytes old new none is =
+      is
+      ∙ ap (λ (bs : List ℕ). map.insert (map.insert old data_id (bs ++ bytes)) schema_id (bytes_of old schema_id ++ schema_text columns)) (no_data old none)
+      ∙ ap (λ (bs : List ℕ). map.insert (map.insert old data_id bytes) schema_id (bs ++ schema_text columns)) (no_schema old none)
 
-stands : (bytes : List ℕ) (entries : List Entry) (old new : Files) → Holds first_types bytes entries → Adds bytes old new → StandFor new entries
-stands bytes entries old new held is = record {
-  held = subst (λ (bs : List ℕ). Holds first_types bs entries)
-      (sym (ap (λ (m : Files). bytes_of m data_id) is ∙ bytes_of-other (map.insert old data_id bytes) schema_id schema_text data_id data_apart ∙ bytes_of-same old data_id bytes)) held;
-  schema = ap (λ (m : Files). bytes_of m schema_id) is ∙ bytes_of-same (map.insert old data_id bytes) schema_id schema_text;
-}
+  pub added : (f0 f1 : Option Files) (bytes : List ℕ) → NoneThere f0 → WhereTold f0 f1 (Sets columns bytes) → WhereTold f0 f1 (Adds columns bytes)
+  added f0 f1 bytes none sets = told_from f0 f1 _ _ _ (λ old new p q. sets_adds bytes old new p q) none sets
 
-pub files_stand : (f0 f1 : Option Files) (bytes : List ℕ) (entries : List Entry) → Holds first_types bytes entries → WhereTold f0 f1 (Adds bytes) → IfSome f1 (λ new. StandFor new entries)
-files_stand f0 f1 bytes entries held adds = told_end f0 f1 _ _ (λ old new p. stands bytes entries old new held p) adds
+  -- ---- how far they came, where none was there
+
+  data_started : (bytes : List ℕ) (old new : Files) (left : List ℕ) → one_there old ≡ false → PutsAllBut old new data_id bytes left → Started data_id bytes old new
+  data_started bytes old new left none (front, e, inl is) = inr (front, left, e, is ∙ ap (λ (bs : List ℕ). map.insert old data_id (bs ++ front)) (no_data old none))
+  data_started bytes old new left none (front, e, inr (nothing, same)) = inl same
+
+  schema_started : (bytes : List ℕ) (old new : Files) → one_there old ≡ false → LeavesPrefix (map.insert old data_id bytes) new schema_id (schema_text columns)
+      → Started schema_id (schema_text columns) (map.insert old data_id bytes) new
+  schema_started bytes old new none (inl same) = inl same
+  schema_started bytes old new none (inr (k, few, is)) =
+      let made : Files = map.insert old data_id bytes in
+      inr (
+        take k (schema_text columns),
+        drop k (schema_text columns),
+        sym (take-append-drop k (schema_text columns)),
+        is ∙ ap (λ (bs : List ℕ). map.insert made schema_id (bs ++ take k (schema_text columns))) (bytes_of-other old data_id bytes schema_id schema_apart ∙ no_schema old none),
+      )
+
+  reaches_begins : (bytes : List ℕ) (old new : Files) → one_there old ≡ false → Reaches columns bytes old new → Begun columns bytes old new
+  reaches_begins bytes old new none (inl (left, put)) = inl (data_started bytes old new left none put)
+  reaches_begins bytes old new none (inr put) =
+      inr (schema_started bytes old new none (subst (λ (bs : List ℕ). LeavesPrefix (map.insert old data_id (bs ++ bytes)) new schema_id (schema_text columns)) (no_data old none) put))
+
+  pub reached : (f0 f1 : Option Files) (bytes : List ℕ) → NoneThere f0 → WhereTold f0 f1 (Reaches columns bytes) → WhereTold f0 f1 (Begun columns bytes)
+  reached f0 f1 bytes none reaches = told_from f0 f1 _ _ _ (λ old new p q. reaches_begins bytes old new p q) none reaches
+
+  pub adds_begin : (f0 f1 : Option Files) (bytes : List ℕ) → WhereTold f0 f1 (Adds columns bytes) → WhereTold f0 f1 (Begun columns bytes)
+  adds_begin f0 f1 bytes adds = told_so f0 f1 _ _ (λ old new is. inr (inr (schema_text columns, [], sym (append-nil (schema_text columns)), is))) adds
+
+  -- ---- they stand
+
+  stands : (bytes : List ℕ) (entries : List Entry) (old new : Files) → AreColumns columns → Holds columns bytes entries → Adds columns bytes old new → StandFor new columns entries
+  stands bytes entries old new are held is = record {
+    held = subst (λ (bs : List ℕ). Holds columns bs entries)
+        (sym (ap (λ (m : Files). bytes_of m data_id) is ∙ bytes_of-other (map.insert old data_id bytes) schema_id (schema_text columns) data_id data_apart ∙ bytes_of-same old data_id bytes)) held;
+    schema = (are, ap (λ (m : Files). bytes_of m schema_id) is ∙ bytes_of-same (map.insert old data_id bytes) schema_id (schema_text columns));
+  }
+
+  pub files_stand : (f0 f1 : Option Files) (bytes : List ℕ) (entries : List Entry) → AreColumns columns → Holds columns bytes entries → WhereTold f0 f1 (Adds columns bytes) → IfSome f1 (λ new. StandFor new columns entries)
+  files_stand f0 f1 bytes entries are held adds = told_end f0 f1 _ _ (λ old new p. stands bytes entries old new are held p) adds

@@ -1,127 +1,137 @@
--- The partitions of entries that ascend ascend themselves, and their rows do.
-use Rattle.std.proofs.Common.{◌≡◌, ◌≢◌, ℕ, Bool, true, false, ◌&&◌, List, [], ◌∷◌, ◌++◌, map, length, take, drop, None, Some, Ok, refl, sym, ◌∙◌, ap, subst, arith}
-use Rattle.std.proofs.lemmas.List.{take-append-drop, length-take}
-use Rattle.std.specs.Prelude.{T, ℤ, if◌then◌else◌, nat_eq}
+-- The partitions of entries that ascend ascend themselves, their rows do, and they are of these entries.
+use Rattle.std.proofs.Common.{◌≡◌, ◌≢◌, ◌⊎◌, ℕ, Bool, true, false, ◌&&◌, List, [], ◌∷◌, ◌++◌, map, None, Some, Option, inl, inr, refl, sym, ◌∙◌, ap, subst}
+use Rattle.std.proofs.lemmas.List.{append-nil}
+use Rattle.std.specs.Prelude.{T, if◌then◌else◌, nat_eq}
 use Rattle.std.specs.declared.cmp.Ordering.{Ordering}
 use Rattle.std.specs.declared.cmp.Ordering.TheVariants.{Less, Equal, Greater}
 use Rattle.std.specs.Ordering.{nat_cmp, ordering_then, is_lt}
 use Rattle.std.specs.Cmp.Lexicographic.{pointwise, same_text, other_text}
 use Rattle.std.specs.FinMap as finite
 use Rattle.std.specs.FinMap.Entries.{below_all, is_sorted}
-use Rattle.key_types.specs.Kinds.{fits_by, more, int, end, and, none, number}
+use Rattle.key_types.specs.Columns.{Columns}
+use Rattle.key_types.specs.Kinds.{Kinds, end, none}
 use Rattle.key_types.specs.Table.{Entry, string_cmp}
-use Rattle.byte_comparable.specs.Strings.{checked}
-use Rattle.byte_comparable.proofs.Compare.{same, then_then}
-use Rattle.table_tool.specs.First.{IsInt, int_partition}
-use Rattle.data_file.specs.Strings.{IsStringOf}
-use Rattle.data_file.specs.Listing.{Row, Partition, data_bytes, ArePartitions}
-use Rattle.table_tool.specs.Grouping.{IsEntry, AreEntries, partition_in, clustering_in, row_of, alone, with_row, joined, grouped}
-use Rattle.table_tool.specs.Standing.{Ascend, RowsAscend, Holds, entries_in, first_types}
-use Rattle.table_tool.proofs.Grouped.{entry_length}
+use Rattle.key_types.specs.declared.schema.ValueType.{ValueType}
+use Rattle.byte_comparable.specs.Encoding.{key_string}
+use Rattle.byte_comparable.proofs.Compare.{same, slice_front}
+use Rattle.byte_comparable.proofs.Kept.{whole}
+use Rattle.key_decode.specs.Strings.{IsStringOf}
+use Rattle.key_decode.proofs.Known.{taken}
+use Rattle.data_file.specs.Listing.{Row, Partition, IsFixed, AreRows, data_bytes, ArePartitions}
+use Rattle.table_tool.specs.Entries.{clustering_in, partition_in}
+use Rattle.table_tool.specs.Grouping.{IsBehind, IsEntry, AreEntries, alone, with_entry, joined, grouped, fixed_by, fixed_in, rows_by, rows_in}
+use Rattle.table_tool.specs.Standing.{Ascend, RowsAscend, Holds, entries_in, fixed_entries, row_entries}
 
 -- ---- the order of strings that are put together
 
-cmp_self : (xs : List ℕ) → string_cmp xs xs ≡ Equal
-cmp_self [] = refl
-cmp_self (x ∷ xs) = ap (λ (o : Ordering). ordering_then o (string_cmp xs xs)) (same x) ∙ cmp_self xs
+-- the bytes begin with the front
+abbrev BeginsWith : List ℕ → List ℕ → Type 0
+BeginsWith bytes front = (tail : List ℕ) × (bytes ≡ front ++ tail)
 
--- strings whose fronts are as long go by their fronts first
-cmp_long : (xs ys cs ds : List ℕ) → length xs ≡ length ys → string_cmp (xs ++ cs) (ys ++ ds) ≡ ordering_then (string_cmp xs ys) (string_cmp cs ds)
-cmp_long [] [] cs ds e = refl
-cmp_long [] (y ∷ ys) cs ds e = absurd (omega arith)
-cmp_long (x ∷ xs) [] cs ds e = absurd (omega arith)
-cmp_long (x ∷ xs) (y ∷ ys) cs ds e =
-    ap (ordering_then (nat_cmp x y)) (cmp_long xs ys cs ds (omega arith))
-    ∙ sym (then_then (nat_cmp x y) (string_cmp xs ys) (string_cmp cs ds))
+-- the fronts of strings that ascend ascend, or one of them begins with the other
+abbrev Fronts : List ℕ → List ℕ → Type 0
+Fronts xs ys = (string_cmp xs ys ≡ Less) ⊎ (BeginsWith ys xs ⊎ BeginsWith xs ys)
 
-first_less : (o s : Ordering) → o ≢ Equal → ordering_then o s ≡ Less → o ≡ Less
-first_less Less s apart e = refl
-first_less Equal s apart e = absurd (apart refl)
-first_less Greater s apart e = e
+module _ (x y : ℕ) (xs ys : List ℕ) where
+  equal_first : x ≡ y → Fronts xs ys → Fronts (x ∷ xs) (y ∷ ys)
+  equal_first is (inl less) = inl (ap (λ (o : Ordering). ordering_then o (string_cmp xs ys)) (subst (λ (z : ℕ). nat_cmp x z ≡ Equal) is (same x)) ∙ less)
+  equal_first is (inr (inl (tail, e))) = inr (inl (tail, ap (λ (z : ℕ). z ∷ ys) (sym is) ∙ ap (λ (zs : List ℕ). x ∷ zs) e))
+  equal_first is (inr (inr (tail, e))) = inr (inr (tail, ap (λ (z : ℕ). z ∷ xs) is ∙ ap (λ (zs : List ℕ). y ∷ zs) e))
 
-module _ (e f : Entry) (is_e : IsEntry e) (is_f : IsEntry f) (less : string_cmp e.0 f.0 ≡ Less) where
-  parts_less : ordering_then (string_cmp (partition_in e.0) (partition_in f.0)) (string_cmp (clustering_in e.0) (clustering_in f.0)) ≡ Less
-  parts_less =
-      let as_long : length (partition_in e.0) ≡ length (partition_in f.0) =
-      omega (arith, length-take 6 e.0, length-take 6 f.0, entry_length e is_e, entry_length f is_f) in
-      sym (cmp_long (partition_in e.0) (partition_in f.0) (clustering_in e.0) (clustering_in f.0) as_long)
-      ∙ ap (λ (xs : List ℕ). string_cmp xs (partition_in f.0 ++ clustering_in f.0)) (take-append-drop 6 e.0)
-      ∙ ap (string_cmp e.0) (take-append-drop 6 f.0)
-      ∙ less
+  first_decides : (o s : Ordering) → nat_cmp x y ≡ o → ordering_then o s ≡ Less → (s ≡ Less → Fronts xs ys) → Fronts (x ∷ xs) (y ∷ ys)
+  first_decides Less s is less behind = inl (ap (λ (o : Ordering). ordering_then o (string_cmp xs ys)) is)
+  first_decides Equal s is less behind = equal_first (finite.nat_cmp-IsAntisymmetric x y is) (behind less)
+  first_decides Greater s is less behind = cc
 
-  partition_less : partition_in e.0 ≢ partition_in f.0 → string_cmp (partition_in e.0) (partition_in f.0) ≡ Less
+fronts : (xs ys cs ds : List ℕ) → string_cmp (xs ++ cs) (ys ++ ds) ≡ Less → Fronts xs ys
+fronts [] ys cs ds less = inr (inl (ys, refl))
+fronts (x ∷ xs) [] cs ds less = inr (inr (x ∷ xs, refl))
+fronts (x ∷ xs) (y ∷ ys) cs ds less =
+    first_decides x y xs ys (nat_cmp x y) (string_cmp (xs ++ cs) (ys ++ ds)) refl less (fronts xs ys cs ds)
+
+-- a string of a partition that begins with another one is that
+one_string : (ts : Kinds) (string front tail : List ℕ) → IsStringOf ts string → IsStringOf ts front → string ≡ front ++ tail → front ≡ string
+one_string ts string front tail (vs, is) (us, front_is) e =
+    let of_string = taken ts string vs is in
+    let of_front = taken ts front us front_is in
+    let longer : key_string ts vs ≡ key_string ts us ++ tail = of_string.1 ∙ e ∙ ap (λ (bs : List ℕ). bs ++ tail) (sym of_front.1) in
+    let same = whole end ts none us none vs tail tt of_front.0 tt of_string.0 (ap (λ (bs : List ℕ). 0x38 ∷ bs) longer) in
+    sym of_front.1 ∙ ap (key_string ts) same.1 ∙ of_string.1
+
+front_less : (ts : Kinds) (p q : List ℕ) → IsStringOf ts p → IsStringOf ts q → p ≢ q → Fronts p q → string_cmp p q ≡ Less
+front_less ts p q is_p is_q apart (inl less) = less
+front_less ts p q is_p is_q apart (inr (inl (tail, e))) = absurd (apart (one_string ts q p tail is_q is_p e))
+front_less ts p q is_p is_q apart (inr (inr (tail, e))) = absurd (apart (sym (one_string ts p q tail is_p is_q e)))
+
+module _ (columns : Columns) (e f : Entry) (is_e : IsEntry columns e) (is_f : IsEntry columns f) (less : string_cmp e.0 f.0 ≡ Less) where
+  parts_less : string_cmp (partition_in columns e.0 ++ clustering_in columns e.0) (partition_in columns f.0 ++ clustering_in columns f.0) ≡ Less
+  parts_less = ap (λ (s : List ℕ). string_cmp s (partition_in columns f.0 ++ clustering_in columns f.0)) is_e.parts ∙ ap (string_cmp e.0) is_f.parts ∙ less
+
+  partition_less : partition_in columns e.0 ≢ partition_in columns f.0 → string_cmp (partition_in columns e.0) (partition_in columns f.0) ≡ Less
   partition_less apart =
-      first_less _ _ (λ tie. apart (finite.slice_cmp-IsAntisymmetric finite.nat_cmp-IsAntisymmetric (partition_in e.0) (partition_in f.0) tie)) parts_less
+      front_less columns.partition (partition_in columns e.0) (partition_in columns f.0) is_e.partition is_f.partition apart
+      (fronts (partition_in columns e.0) (partition_in columns f.0) (clustering_in columns e.0) (clustering_in columns f.0) parts_less)
 
-  row_less : partition_in e.0 ≡ partition_in f.0 → string_cmp (clustering_in e.0) (clustering_in f.0) ≡ Less
+  row_less : partition_in columns e.0 ≡ partition_in columns f.0 → string_cmp (clustering_in columns e.0) (clustering_in columns f.0) ≡ Less
   row_less is =
-      let tie : string_cmp (partition_in e.0) (partition_in f.0) ≡ Equal = subst (λ (k : List ℕ). string_cmp (partition_in e.0) k ≡ Equal) is (cmp_self (partition_in e.0)) in
-      sym (ap (λ (o : Ordering). ordering_then o (string_cmp (clustering_in e.0) (clustering_in f.0))) tie) ∙ parts_less
+      sym (slice_front (partition_in columns e.0) (clustering_in columns e.0) (clustering_in columns f.0))
+      ∙ ap (λ (p : List ℕ). string_cmp (partition_in columns e.0 ++ clustering_in columns e.0) (p ++ clustering_in columns f.0)) is
+      ∙ parts_less
 
--- ---- the partitions ascend
+-- ---- an entry in front of a partition
 
--- partitions of which the first begins with this entry, and which ascend
-record Tidy (e : Entry) (ps : List Partition) : Type 0 where
-  head : Partition
-  tail : List Partition
-  is : ps ≡ head ∷ tail
-  key_is : head.key ≡ partition_in e.0
-  others : List Row
-  rows_are : head.rows ≡ row_of e ∷ others
-  ascend : Ascend (map (λ p. p.key) ps)
-  rows : RowsAscend ps
+some_behind : (c d : List ℕ) → string_cmp c d ≡ Less → d ≢ []
+some_behind [] [] less e = cc
+some_behind [] (y ∷ d) less e = cc
+some_behind (x ∷ c) [] less e = cc
+some_behind (x ∷ c) (y ∷ d) less e = cc
 
-some_rows : (row : Row) (rows : List Row) → row ∷ rows ≢ []
-some_rows row rows e = cc
+-- an entry of a row has no static value
+row_unfixed : (d value : List ℕ) → d ≢ [] → fixed_by d value ≡ None
+row_unfixed [] value some = absurd (some refl)
+row_unfixed (b ∷ d) value some = refl
 
-module _ (e f : Entry) (is_e : IsEntry e) (is_f : IsEntry f) (less : string_cmp e.0 f.0 ≡ Less) (head : Partition) (tail : List Partition) (others : List Row)
-    (key_is : head.key ≡ partition_in f.0) (rows_are : head.rows ≡ row_of f ∷ others)
-    (ascend : Ascend (map (λ (p : Partition). p.key) (head ∷ tail))) (rows : RowsAscend (head ∷ tail)) where
-  same_partition : pointwise nat_eq head.key (partition_in e.0) ≡ true → Tidy e (with_row (row_of e) head ∷ tail)
-  same_partition t =
-      let is_key : head.key ≡ partition_in e.0 = same_text head.key (partition_in e.0) (sym t) in
-      let first : string_cmp (clustering_in e.0) (clustering_in f.0) ≡ Less = row_less e f is_e is_f less (sym is_key ∙ key_is) in
-      let behind : Ascend (map (λ (r : Row). r.clustering) (row_of f ∷ others)) = subst (λ (rs : List Row). Ascend (map (λ (r : Row). r.clustering) rs)) rows_are rows.1 in
-      record {
-        head = with_row (row_of e) head;
-        tail = tail;
-        is = refl;
-        key_is = is_key;
-        others = head.rows;
-        rows_are = refl;
-        ascend = ascend;
-        rows = (
-          some_rows (row_of e) head.rows,
-          subst (λ (rs : List Row). Ascend (clustering_in e.0 ∷ map (λ (r : Row). r.clustering) rs)) (sym rows_are) (first, behind),
-          rows.2,
-        );
-      }
+one_row : (d value : List ℕ) → d ≢ [] → rows_by d value ≡ record { clustering = d; value = value } ∷ []
+one_row [] value some = absurd (some refl)
+one_row (b ∷ d) value some = refl
 
-  new_partition : pointwise nat_eq head.key (partition_in e.0) ≡ false → Tidy e (alone e ∷ head ∷ tail)
-  new_partition t =
-      let apart : head.key ≢ partition_in e.0 = other_text head.key (partition_in e.0) (sym t) in
-      let first : string_cmp (partition_in e.0) (partition_in f.0) ≡ Less = partition_less e f is_e is_f less (λ same. apart (key_is ∙ sym same)) in
-      record {
-        head = alone e;
-        tail = head ∷ tail;
-        is = refl;
-        key_is = refl;
-        others = [];
-        rows_are = refl;
-        ascend = (subst (λ (k : List ℕ). string_cmp (partition_in e.0) k ≡ Less) (sym key_is) first, ascend);
-        rows = (some_rows (row_of e) [], tt, rows);
-      }
+-- it is of a static value or of a row
+one_of_both : (c value : List ℕ) (rows : List Row) → fixed_by c value ≡ None → rows_by c value ++ rows ≢ []
+one_of_both [] value rows is empty = cc
+one_of_both (b ∷ c) value rows is empty = cc
 
-  tidy_by : (t : Bool) → pointwise nat_eq head.key (partition_in e.0) ≡ t → Tidy e (if t then with_row (row_of e) head ∷ tail else alone e ∷ head ∷ tail)
-  tidy_by true t = same_partition t
-  tidy_by false t = new_partition t
+-- in front of rows of which the first is above it
+rows_go_on : (c value d w : List ℕ) (rows others : List Row) → string_cmp c d ≡ Less → rows ≡ record { clustering = d; value = w } ∷ others
+    → Ascend (map (λ (r : Row). r.clustering) rows) → Ascend (map (λ (r : Row). r.clustering) (rows_by c value ++ rows))
+rows_go_on [] value d w rows others less is ascend = ascend
+rows_go_on (b ∷ c) value d w rows others less is ascend =
+    let behind : Ascend (map (λ (r : Row). r.clustering) (record { clustering = d; value = w } ∷ others)) = subst (λ (rs : List Row). Ascend (map (λ (r : Row). r.clustering) rs)) is ascend in
+    subst (λ (rs : List Row). Ascend ((b ∷ c) ∷ map (λ (r : Row). r.clustering) rs)) (sym is) (less, behind)
 
-tidy_more : (e f : Entry) (ps : List Partition) → IsEntry e → IsEntry f → string_cmp e.0 f.0 ≡ Less → Tidy f ps → Tidy e (joined e ps)
-tidy_more e f ps is_e is_f less d =
-    subst (λ (qs : List Partition). Tidy e (joined e qs)) (sym d.is)
-    (tidy_by e f is_e is_f less d.head d.tail d.others d.key_is d.rows_are
-    (subst (λ (qs : List Partition). Ascend (map (λ (p : Partition). p.key) qs)) d.is d.ascend) (subst RowsAscend d.is d.rows)
-    (pointwise nat_eq d.head.key (partition_in e.0)) refl)
+-- the row of an entry alone
+row_alone : (c value : List ℕ) → Ascend (map (λ (r : Row). r.clustering) (rows_by c value))
+row_alone [] value = tt
+row_alone (b ∷ c) value = tt
+
+-- its entry stands before those of the rows
+entry_first : (key c value : List ℕ) (rows : List Row) (rest : List Entry)
+    → fixed_entries key (fixed_by c value) ++ (row_entries key (rows_by c value ++ rows) ++ rest) ≡ (key ++ c, value) ∷ (row_entries key rows ++ rest)
+entry_first key [] value rows rest = ap (λ (k : List ℕ). (k, value) ∷ (row_entries key rows ++ rest)) (sym (append-nil key))
+entry_first key (b ∷ c) value rows rest = refl
+
+entry_back : (columns : Columns) (e : Entry) (key : List ℕ) → IsEntry columns e → key ≡ partition_in columns e.0 → (key ++ clustering_in columns e.0, e.1) ≡ e
+entry_back columns e key is key_is = ap (λ (s : List ℕ). (s, e.1)) (ap (λ (k : List ℕ). k ++ clustering_in columns e.0) key_is ∙ is.parts)
+
+-- the partition of one entry
+alone_some : (columns : Columns) (e : Entry) → fixed_in columns e ≡ None → rows_in columns e ≢ []
+alone_some columns e is empty = one_of_both (clustering_in columns e.0) e.1 [] is (append-nil (rows_in columns e) ∙ empty)
+
+alone_first : (columns : Columns) (e : Entry) (ps : List Partition) → IsEntry columns e → entries_in (alone columns e ∷ ps) ≡ e ∷ entries_in ps
+alone_first columns e ps is =
+    let key : List ℕ = partition_in columns e.0 in
+    ap (λ (rs : List Row). fixed_entries key (fixed_in columns e) ++ (row_entries key rs ++ entries_in ps)) (sym (append-nil (rows_in columns e)))
+    ∙ entry_first key (clustering_in columns e.0) e.1 [] (entries_in ps)
+    ∙ ap (λ (x : Entry). x ∷ entries_in ps) (entry_back columns e key is refl)
 
 both : (a b : Bool) → T (a && b) → T a × T b
 both true b t = (tt, t)
@@ -132,71 +142,152 @@ less_is Less t = refl
 less_is Equal t = absurd t
 less_is Greater t = absurd t
 
-tidy : (e : Entry) (es : List Entry) → AreEntries (e ∷ es) → T (is_sorted string_cmp (e ∷ es)) → Tidy e (grouped (e ∷ es))
-tidy e [] h sorted = record { head = alone e; tail = []; is = refl; key_is = refl; others = []; rows_are = refl; ascend = tt; rows = (some_rows (row_of e) [], tt, tt) }
-tidy e (f ∷ es) h sorted =
-    let tests = both (below_all string_cmp e.0 (f ∷ es)) (is_sorted string_cmp (f ∷ es)) sorted in
-    let less : string_cmp e.0 f.0 ≡ Less = less_is (string_cmp e.0 f.0) (both (is_lt (string_cmp e.0 f.0)) (below_all string_cmp e.0 es) tests.0).0 in
-    tidy_more e f (grouped (f ∷ es)) h.0 h.1.0 less (tidy f es h.1 tests.1)
+-- ---- the partitions of entries in order
 
-pub keys_ascend : (es : List Entry) → AreEntries es → T (is_sorted string_cmp es) → Ascend (map (λ (p : Partition). p.key) (grouped es))
-keys_ascend [] h sorted = tt
-keys_ascend (e ∷ es) h sorted = (tidy e es h sorted).ascend
+-- partitions of these entries, of which the first begins with the first entry, and which ascend
+record Tidy (columns : Columns) (e : Entry) (es : List Entry) (ps : List Partition) : Type 0 where
+  head : Partition
+  tail : List Partition
+  is : ps ≡ head ∷ tail
+  key_is : head.key ≡ partition_in columns e.0
+  fixed_is : head.fixed ≡ fixed_in columns e
+  others : List Row
+  rows_are : head.rows ≡ rows_in columns e ++ others
+  ascend : Ascend (map (λ p. p.key) ps)
+  rows : RowsAscend ps
+  same : entries_in ps ≡ e ∷ es
 
-pub rows_ascend : (es : List Entry) → AreEntries es → T (is_sorted string_cmp es) → RowsAscend (grouped es)
-rows_ascend [] h sorted = tt
-rows_ascend (e ∷ es) h sorted = (tidy e es h sorted).rows
+module _ (columns : Columns) (e f : Entry) (es : List Entry) (is_e : IsEntry columns e) (is_f : IsEntry columns f) (less : string_cmp e.0 f.0 ≡ Less)
+    (head : Partition) (tail : List Partition) (others : List Row)
+    (key_is : head.key ≡ partition_in columns f.0) (fixed_is : head.fixed ≡ fixed_in columns f) (rows_are : head.rows ≡ rows_in columns f ++ others)
+    (ascend : Ascend (map (λ (p : Partition). p.key) (head ∷ tail))) (rows : RowsAscend (head ∷ tail)) (same : entries_in (head ∷ tail) ≡ f ∷ es) where
+  same_partition : pointwise nat_eq head.key (partition_in columns e.0) ≡ true → Tidy columns e (f ∷ es) (with_entry columns e head ∷ tail)
+  same_partition t =
+      let is_key : head.key ≡ partition_in columns e.0 = same_text head.key (partition_in columns e.0) (sym t) in
+      let first : string_cmp (clustering_in columns e.0) (clustering_in columns f.0) ≡ Less = row_less columns e f is_e is_f less (sym is_key ∙ key_is) in
+      let some : clustering_in columns f.0 ≢ [] = some_behind (clustering_in columns e.0) (clustering_in columns f.0) first in
+      let unfixed : head.fixed ≡ None = fixed_is ∙ row_unfixed (clustering_in columns f.0) f.1 some in
+      let one : head.rows ≡ record { clustering = clustering_in columns f.0; value = f.1 } ∷ others = rows_are ∙ ap (λ (rs : List Row). rs ++ others) (one_row (clustering_in columns f.0) f.1 some) in
+      let behind : row_entries head.key head.rows ++ entries_in tail ≡ f ∷ es =
+      ap (λ (fixed : Option (List ℕ)). fixed_entries head.key fixed ++ (row_entries head.key head.rows ++ entries_in tail)) (sym unfixed) ∙ same in
+      record {
+        head = with_entry columns e head;
+        tail = tail;
+        is = refl;
+        key_is = is_key;
+        fixed_is = refl;
+        others = head.rows;
+        rows_are = refl;
+        ascend = ascend;
+        rows = (
+          one_of_both (clustering_in columns e.0) e.1 head.rows,
+          rows_go_on (clustering_in columns e.0) e.1 (clustering_in columns f.0) f.1 head.rows others first one rows.1,
+          rows.2,
+        );
+        same =
+            entry_first head.key (clustering_in columns e.0) e.1 head.rows (entries_in tail)
+            ∙ ap (λ (x : Entry). x ∷ (row_entries head.key head.rows ++ entries_in tail)) (entry_back columns e head.key is_e is_key)
+            ∙ ap (λ (xs : List Entry). e ∷ xs) behind;
+      }
 
--- ---- they are partitions, of these entries
+  new_partition : pointwise nat_eq head.key (partition_in columns e.0) ≡ false → Tidy columns e (f ∷ es) (alone columns e ∷ head ∷ tail)
+  new_partition t =
+      let apart : head.key ≢ partition_in columns e.0 = other_text head.key (partition_in columns e.0) (sym t) in
+      let first : string_cmp (partition_in columns e.0) (partition_in columns f.0) ≡ Less = partition_less columns e f is_e is_f less (λ is. apart (key_is ∙ sym is)) in
+      record {
+        head = alone columns e;
+        tail = head ∷ tail;
+        is = refl;
+        key_is = refl;
+        fixed_is = refl;
+        others = [];
+        rows_are = sym (append-nil (rows_in columns e));
+        ascend = (subst (λ (k : List ℕ). string_cmp (partition_in columns e.0) k ≡ Less) (sym key_is) first, ascend);
+        rows = (alone_some columns e, row_alone (clustering_in columns e.0) e.1, rows);
+        same = alone_first columns e (head ∷ tail) is_e ∙ ap (λ (xs : List Entry). e ∷ xs) same;
+      }
 
-fitting : (t : Bool) (n : ℤ) → fits_by int (number n) ≡ t → t ≡ true → checked (if t then None else Some 0) (int_partition n) ≡ Ok (int_partition n)
-fitting true n e is = refl
-fitting false n e is = cc
+  tidy_by : (t : Bool) → pointwise nat_eq head.key (partition_in columns e.0) ≡ t
+      → Tidy columns e (f ∷ es) (if t then with_entry columns e head ∷ tail else alone columns e ∷ head ∷ tail)
+  tidy_by true t = same_partition t
+  tidy_by false t = new_partition t
 
-int_string : (n : ℤ) → IsInt n → IsStringOf (more int end) (int_partition n)
-int_string n fits = (and (number n) none, fitting (fits_by int (number n)) n refl fits)
+module _ (columns : Columns) where
+  tidy_more : (e f : Entry) (es : List Entry) (ps : List Partition) → IsEntry columns e → IsEntry columns f → string_cmp e.0 f.0 ≡ Less → Tidy columns f es ps
+      → Tidy columns e (f ∷ es) (joined columns e ps)
+  tidy_more e f es ps is_e is_f less d =
+      subst (λ (qs : List Partition). Tidy columns e (f ∷ es) (joined columns e qs)) (sym d.is)
+      (tidy_by columns e f es is_e is_f less d.head d.tail d.others d.key_is d.fixed_is d.rows_are
+      (subst (λ (qs : List Partition). Ascend (map (λ (p : Partition). p.key) qs)) d.is d.ascend) (subst RowsAscend d.is d.rows) (ap entries_in (sym d.is) ∙ d.same)
+      (pointwise nat_eq d.head.key (partition_in columns e.0)) refl)
 
-partition_string : (e : Entry) → IsEntry e → IsStringOf (more int end) (partition_in e.0)
-partition_string e h = subst (λ (s : List ℕ). IsStringOf (more int end) (take 6 s)) (sym h.string) (int_string h.number h.fits)
+  tidy : (e : Entry) (es : List Entry) → AreEntries columns (e ∷ es) → T (is_sorted string_cmp (e ∷ es)) → Tidy columns e es (grouped columns (e ∷ es))
+  tidy e [] h sorted = record {
+    head = alone columns e;
+    tail = [];
+    is = refl;
+    key_is = refl;
+    fixed_is = refl;
+    others = [];
+    rows_are = sym (append-nil (rows_in columns e));
+    ascend = tt;
+    rows = (alone_some columns e, row_alone (clustering_in columns e.0) e.1, tt);
+    same = alone_first columns e [] h.0;
+  }
+  tidy e (f ∷ es) h sorted =
+      let tests = both (below_all string_cmp e.0 (f ∷ es)) (is_sorted string_cmp (f ∷ es)) sorted in
+      let less : string_cmp e.0 f.0 ≡ Less = less_is (string_cmp e.0 f.0) (both (is_lt (string_cmp e.0 f.0)) (below_all string_cmp e.0 es) tests.0).0 in
+      tidy_more e f es (grouped columns (f ∷ es)) h.0 h.1.0 less (tidy f es h.1 tests.1)
 
-clustering_string : (e : Entry) → IsEntry e → IsStringOf end (clustering_in e.0)
-clustering_string e h = subst (λ (s : List ℕ). IsStringOf end (drop 6 s)) (sym h.string) (none, refl)
+  pub keys_ascend : (es : List Entry) → AreEntries columns es → T (is_sorted string_cmp es) → Ascend (map (λ (p : Partition). p.key) (grouped columns es))
+  keys_ascend [] h sorted = tt
+  keys_ascend (e ∷ es) h sorted = (tidy e es h sorted).ascend
 
-are_by : (t : Bool) (e : Entry) (p : Partition) (ps : List Partition) → IsEntry e → ArePartitions first_types (p ∷ ps)
-    → ArePartitions first_types (if t then with_row (row_of e) p ∷ ps else alone e ∷ p ∷ ps)
-are_by true e p ps h are = (are.0, are.1, ((clustering_string e h, h.value), are.2), are.3)
-are_by false e p ps h are = (partition_string e h, tt, ((clustering_string e h, h.value), tt), are)
+  pub rows_ascend : (es : List Entry) → AreEntries columns es → T (is_sorted string_cmp es) → RowsAscend (grouped columns es)
+  rows_ascend [] h sorted = tt
+  rows_ascend (e ∷ es) h sorted = (tidy e es h sorted).rows
 
-pub are_partitions : (es : List Entry) → AreEntries es → ArePartitions first_types (grouped es)
-are_partitions [] h = tt
-are_partitions (e ∷ es) h = one_more (grouped es) (are_partitions es h.1)
-  where
-    one_more : (ps : List Partition) → ArePartitions first_types ps → ArePartitions first_types (joined e ps)
-    one_more [] are = (partition_string e h.0, tt, ((clustering_string e h.0, h.0.value), tt), tt)
-    one_more (p ∷ ps) are = are_by (pointwise nat_eq p.key (partition_in e.0)) e p ps h.0 are
+  pub back : (es : List Entry) → AreEntries columns es → T (is_sorted string_cmp es) → entries_in (grouped columns es) ≡ es
+  back [] h sorted = refl
+  back (e ∷ es) h sorted = (tidy e es h sorted).same
 
-first_back : (e : Entry) (key : List ℕ) → key ≡ partition_in e.0 → (key ++ clustering_in e.0, e.1) ≡ e
-first_back e key is = ap (λ (s : List ℕ). (s, e.1)) (ap (λ (k : List ℕ). k ++ clustering_in e.0) is ∙ take-append-drop 6 e.0)
+  -- ---- they are partitions
 
-back_by : (t : Bool) (e : Entry) (p : Partition) (ps : List Partition) → pointwise nat_eq p.key (partition_in e.0) ≡ t
-    → entries_in (if t then with_row (row_of e) p ∷ ps else alone e ∷ p ∷ ps) ≡ e ∷ entries_in (p ∷ ps)
-back_by true e p ps t = ap (λ (x : Entry). x ∷ entries_in (p ∷ ps)) (first_back e p.key (same_text p.key (partition_in e.0) (sym t)))
-back_by false e p ps t = ap (λ (x : Entry). x ∷ entries_in (p ∷ ps)) (first_back e (partition_in e.0) refl)
+  no_fixed : (static : Option ValueType) → IsFixed static None
+  no_fixed None = tt
+  no_fixed (Some type) = tt
 
-back_joined : (e : Entry) (ps : List Partition) → entries_in (joined e ps) ≡ e ∷ entries_in ps
-back_joined e [] = ap (λ (x : Entry). x ∷ []) (first_back e (partition_in e.0) refl)
-back_joined e (p ∷ ps) = back_by (pointwise nat_eq p.key (partition_in e.0)) e p ps refl
+  entry_fixed : (c value : List ℕ) → IsBehind columns c value → IsFixed columns.static_value (fixed_by c value)
+  entry_fixed [] value is = is
+  entry_fixed (b ∷ c) value is = no_fixed columns.static_value
 
-pub back : (es : List Entry) → entries_in (grouped es) ≡ es
-back [] = refl
-back (e ∷ es) = back_joined e (grouped es) ∙ ap (λ (xs : List Entry). e ∷ xs) (back es)
+  entry_rows : (c value : List ℕ) (rows : List Row) → IsBehind columns c value → AreRows columns rows → AreRows columns (rows_by c value ++ rows)
+  entry_rows [] value rows is are = are
+  entry_rows (b ∷ c) value rows is are = (is, are)
 
--- the data of entries that ascend hold them
-abbrev pub holds : (es : List Entry) → AreEntries es → T (is_sorted string_cmp es) → Holds first_types (data_bytes None (grouped es)) es
-holds es h sorted = record {
-  partitions = grouped es;
-  listed = (refl, are_partitions es h);
-  ascend = keys_ascend es h sorted;
-  rows = rows_ascend es h sorted;
-  same = back es;
-}
+  alone_rows : (c value : List ℕ) → IsBehind columns c value → AreRows columns (rows_by c value)
+  alone_rows [] value is = tt
+  alone_rows (b ∷ c) value is = (is, tt)
+
+  are_by : (t : Bool) (e : Entry) (p : Partition) (ps : List Partition) → IsEntry columns e → ArePartitions columns (p ∷ ps)
+      → ArePartitions columns (if t then with_entry columns e p ∷ ps else alone columns e ∷ p ∷ ps)
+  are_by true e p ps h are = (are.0, entry_fixed (clustering_in columns e.0) e.1 h.behind, entry_rows (clustering_in columns e.0) e.1 p.rows h.behind are.2, are.3)
+  are_by false e p ps h are = (h.partition, entry_fixed (clustering_in columns e.0) e.1 h.behind, alone_rows (clustering_in columns e.0) e.1 h.behind, are)
+
+  one_more : (e : Entry) (ps : List Partition) → IsEntry columns e → ArePartitions columns ps → ArePartitions columns (joined columns e ps)
+  one_more e [] h are = (h.partition, entry_fixed (clustering_in columns e.0) e.1 h.behind, alone_rows (clustering_in columns e.0) e.1 h.behind, tt)
+  one_more e (p ∷ ps) h are = are_by (pointwise nat_eq p.key (partition_in columns e.0)) e p ps h are
+
+  pub are_partitions : (es : List Entry) → AreEntries columns es → ArePartitions columns (grouped columns es)
+  are_partitions [] h = tt
+  are_partitions (e ∷ es) h = one_more e (grouped columns es) h.0 (are_partitions es h.1)
+
+  -- the data of entries that ascend hold them
+  abbrev pub holds : (es : List Entry) → AreEntries columns es → T (is_sorted string_cmp es) → Holds columns (data_bytes columns.static_value (grouped columns es)) es
+  holds es h sorted = record {
+    partitions = grouped columns es;
+    listed = (refl, are_partitions es h);
+    ascend = keys_ascend es h sorted;
+    rows = rows_ascend es h sorted;
+    same = back es h sorted;
+  }

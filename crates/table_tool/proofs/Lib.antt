@@ -2,6 +2,9 @@ pub mod WindowLemmas
 mod WalkLemmas
 mod StepLemmas
 mod ScanLemmas
+mod SchemaLemmas
+mod RequestLemmas
+mod KeyLemmas
 mod EndLemmas
 mod MapLemmas
 pub mod Flushed
@@ -11,3 +14,4 @@ pub mod LoadedLemmas
 pub mod PrintedLemmas
 pub mod RowLemmas
 pub mod Writes
+pub mod PartsLemmas

@@ -1,36 +1,108 @@
--- The number in a row's string is the number that was put.
-use Rattle.std.proofs.Common.{◌≡◌, ℕ, ◌^◌, ◌<◌, List, [], ◌∷◌, ◌++◌, refl, sym, ◌∙◌, ap, arith, append_assoc}
+-- The line of an entry names the components of which its key's string is put together.
+use Rattle.std.proofs.Common.{◌≡◌, ℕ, ◌+◌, ◌≤◌, length, Bool, true, false, List, [], ◌∷◌, ◌++◌, Option, Some, None, Result, Ok, Err, OnOk, refl, sym, ◌∙◌, ap, arith, append_assoc}
 use Rattle.std.proofs.lemmas.List.{append-nil}
-use Rattle.std.proofs.lemmas.Bool.Decides.{nat_tests}
-use Rattle.std.proofs.lemmas.Int.{ints}
-use Rattle.std.proofs.lemmas.Nat.{from_be_bytes-to_be_bytes_4}
-use Rattle.std.specs.Prelude.{ℤ, pos, negsuc, ◌-ℤ◌, IsTrue}
-use Rattle.std.specs.Int.{w32, from_be_bytes, bytes_high_first}
-use Rattle.key_types.specs.Kinds.{int, number, fits_by}
-use Rattle.byte_comparable.specs.Encoding.{shifted}
-use Rattle.table_tool.specs.First.{int_partition}
+use Rattle.std.specs.Prelude.{if◌then◌else◌}
+use Rattle.key_types.specs.declared.schema.ValueType.{ValueType}
+use Rattle.key_types.specs.Columns.{Columns}
+use Rattle.key_types.specs.Kinds.{Kinds, end, more, Vals, none, and, EachFits}
 use Rattle.key_types.specs.Table.{Entry}
-use Rattle.table_tool.specs.Printed.{entry_line, entry_lines, number_in}
+use Rattle.byte_comparable.specs.Encoding.{key_string}
+use Rattle.key_decode.specs.Reading.{values_at}
+use Rattle.key_decode.proofs.Known.{read_key}
+use Rattle.key_text.specs.Written.{row_literal}
+use Rattle.table_tool.specs.Entries.{has_some, is_row, rest_of, row_count}
+use Rattle.table_tool.specs.Grouping.{row_at}
+use Rattle.table_tool.specs.Standing.{fixed_entries}
+use Rattle.table_tool.specs.Printed.{entry_line, entry_lines, line_behind, line_by, row_by, row_line, static_by, static_line}
 
-shifted_small : (n : ℤ) → IsTrue (fits_by int (number n)) → shifted (2 ^ 31) n < 2 ^ 32
-shifted_small (pos n) h = grind (arith, nat_tests)
-shifted_small (negsuc n) h = grind (arith, nat_tests)
+pub ok_so : {T E : Type 0} (r : Result T E) (P Q : Type 0) → (P → Q) → OnOk r P → OnOk r Q
+ok_so (Ok x) P Q f p = f p
+ok_so (Err e) P Q f p = tt
 
-shifted_back : (n : ℤ) → IsTrue (fits_by int (number n)) → pos (shifted (2 ^ 31) n) -ℤ pos (2 ^ 31) ≡ n
-shifted_back (pos n) h = omega (arith, ints)
-shifted_back (negsuc n) h = let small : n < 2 ^ 31 = grind (arith, nat_tests) in omega (arith, ints)
+-- a key's string is never empty
+pub some_key : (ts : Kinds) (vs : Vals) → EachFits ts vs → has_some (key_string ts vs) ≡ true
+some_key end none fits = refl
+some_key end (and v vs) fits = absurd fits
+some_key (more t ts) none fits = absurd fits
+some_key (more t ts) (and v vs) fits = refl
 
--- the four bytes behind the separator give the shifted number back
-bytes_back : (m : ℕ) → m < 2 ^ 32 → from_be_bytes w32 (bytes_high_first 4 m) ≡ m
-bytes_back m h = from_be_bytes-to_be_bytes_4 m h
+pub row_few : (clustering : List ℕ) → row_at clustering ≤ 1
+row_few [] = omega arith
+row_few (b ∷ bs) = omega arith
 
-pub number_back : (n : ℤ) (rest : List ℕ) → IsTrue (fits_by int (number n)) → number_in (int_partition n ++ rest) ≡ n
-number_back n rest h = ap (λ (m : ℕ). pos m -ℤ pos (2 ^ 31)) (bytes_back (shifted (2 ^ 31) n) (shifted_small n h)) ∙ shifted_back n h
+module _ (columns : Columns) where
+  read_whole : (ts : Kinds) (vs : Vals) → EachFits ts vs → values_at ts (key_string ts vs) ≡ Ok (vs, [])
+  read_whole ts vs fits = ap (values_at ts) (sym (append-nil (key_string ts vs))) ∙ read_key ts vs [] fits
 
--- the lines of entries and more of them
-pub lines_append : (entries more : List Entry) → entry_lines (entries ++ more) ≡ entry_lines entries ++ entry_lines more
-lines_append [] more = refl
-lines_append (entry ∷ entries) more = ap (λ t. entry_line entry ++ t) (lines_append entries more) ∙ sym (append_assoc (entry_line entry) (entry_lines entries) (entry_lines more))
+  row_there : (partition : Vals) (string value : List ℕ) → has_some string ≡ true → line_behind columns partition string value ≡ row_by columns partition (values_at columns.clustering string) value
+  row_there partition [] value some = cc
+  row_there partition (b ∷ bs) value some = refl
 
-pub lines_more : (entries : List Entry) (entry : Entry) → entry_lines entries ++ entry_line entry ≡ entry_lines (entries ++ entry ∷ [])
-lines_more entries entry = sym (lines_append entries (entry ∷ []) ∙ ap (λ t. entry_lines entries ++ t) (append-nil (entry_line entry)))
+  -- the line of a row
+  pub row_named : (partition clustering : Vals) (value : List ℕ) → EachFits columns.partition partition → EachFits columns.clustering clustering
+      → entry_line columns (key_string columns.partition partition ++ key_string columns.clustering clustering, value) ≡ row_line columns partition clustering value
+  row_named partition clustering value fits within =
+      ap (λ (r : Result (Vals × List ℕ) ℕ). line_by columns r value) (read_key columns.partition partition (key_string columns.clustering clustering) fits)
+      ∙ row_there partition (key_string columns.clustering clustering) value (some_key columns.clustering clustering within)
+      ∙ ap (λ (r : Result (Vals × List ℕ) ℕ). row_by columns partition r value) (read_whole columns.clustering clustering within)
+
+  pub is_row_entry : (partition : Vals) (rest value : List ℕ) → EachFits columns.partition partition → is_row columns (key_string columns.partition partition ++ rest, value) ≡ has_some rest
+  is_row_entry partition rest value fits = ap (λ (r : Result (Vals × List ℕ) ℕ). has_some (rest_of r)) (read_key columns.partition partition rest fits)
+
+  -- that of a static value
+  pub static_named : (partition : Vals) (value : List ℕ) → EachFits columns.partition partition
+      → entry_line columns (key_string columns.partition partition, value) ≡ static_by columns columns.static_value partition value
+  static_named partition value fits = ap (λ (r : Result (Vals × List ℕ) ℕ). line_by columns r value) (read_whole columns.partition partition fits)
+
+  pub is_static_entry : (partition : Vals) (value : List ℕ) → EachFits columns.partition partition → is_row columns (key_string columns.partition partition, value) ≡ false
+  is_static_entry partition value fits = ap (λ (r : Result (Vals × List ℕ) ℕ). has_some (rest_of r)) (read_whole columns.partition partition fits)
+
+  pub static_line_named : (type : ValueType) (partition : Vals) (value : List ℕ) → columns.static_value ≡ Some type → EachFits columns.partition partition
+      → entry_line columns (key_string columns.partition partition, value) ≡ static_line columns type partition value
+  static_line_named type partition value is fits = static_named partition value fits ∙ ap (λ (o : Option ValueType). static_by columns o partition value) is
+
+  -- ---- what is written
+
+  pub row_written : (partition clustering : Vals) (string value out mid new : List ℕ) → EachFits columns.partition partition → EachFits columns.clustering clustering
+      → string ≡ key_string columns.clustering clustering → mid ≡ out ++ row_literal columns.partition columns.clustering columns.value partition clustering value
+      → new ≡ mid ++ 10 ∷ [] → new ≡ out ++ entry_line columns (key_string columns.partition partition ++ string, value)
+  row_written partition clustering string value out mid new fits within is first second =
+      let line = ap (λ (s : List ℕ). entry_line columns (key_string columns.partition partition ++ s, value)) is ∙ row_named partition clustering value fits within in
+      second ∙ ap (λ t. t ++ 10 ∷ []) first
+      ∙ append_assoc out (row_literal columns.partition columns.clustering columns.value partition clustering value) (10 ∷ [])
+      ∙ ap (λ t. out ++ t) (sym line)
+
+  pub static_written : (partition : Vals) (string rest value out new : List ℕ) → EachFits columns.partition partition → string ≡ key_string columns.partition partition → rest ≡ []
+      → new ≡ out ++ static_by columns columns.static_value partition value → new ≡ out ++ entry_line columns (string ++ rest, value)
+  static_written partition string rest value out new fits is empty e =
+      let key : string ++ rest ≡ key_string columns.partition partition = ap (λ r. string ++ r) empty ∙ append-nil string ∙ is in
+      e ∙ ap (λ t. out ++ t) (sym (ap (λ (s : List ℕ). entry_line columns (s, value)) key ∙ static_named partition value fits))
+
+  -- the static value of a partition, where it has one
+  pub fixed_written : (partition : Vals) (value out new : List ℕ) → EachFits columns.partition partition → new ≡ out ++ static_by columns columns.static_value partition value
+      → new ≡ out ++ entry_lines columns (fixed_entries (key_string columns.partition partition) (Some value))
+  fixed_written partition value out new fits e =
+      e ∙ ap (λ t. out ++ t) (sym (static_named partition value fits) ∙ sym (append-nil (entry_line columns (key_string columns.partition partition, value))))
+
+  pub fixed_count : (partition : Vals) (fixed : Option (List ℕ)) → EachFits columns.partition partition → row_count columns (fixed_entries (key_string columns.partition partition) fixed) ≡ 0
+  fixed_count partition None fits = refl
+  fixed_count partition (Some value) fits = ap (λ (b : Bool). (if b then 1 else 0) + 0) (is_static_entry partition value fits)
+
+  -- ---- lines and more of them
+
+  pub lines_append : (entries others : List Entry) → entry_lines columns (entries ++ others) ≡ entry_lines columns entries ++ entry_lines columns others
+  lines_append [] others = refl
+  lines_append (entry ∷ entries) others =
+      ap (λ t. entry_line columns entry ++ t) (lines_append entries others) ∙ sym (append_assoc (entry_line columns entry) (entry_lines columns entries) (entry_lines columns others))
+
+  pub count_append : (entries others : List Entry) → row_count columns (entries ++ others) ≡ row_count columns entries + row_count columns others
+  count_append [] others = omega arith
+  count_append (entry ∷ entries) others = omega (arith, count_append entries others)
+
+  pub count_few : (entries : List Entry) → row_count columns entries ≤ length entries
+  count_few [] = omega arith
+  count_few (entry ∷ entries) = let one = one_row (is_row columns entry) in omega (arith, one, count_few entries)
+    where
+      one_row : (b : Bool) → (if b then 1 else 0) ≤ 1
+      one_row true = omega arith
+      one_row false = omega arith

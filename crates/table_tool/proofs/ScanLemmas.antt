@@ -1,5 +1,5 @@
 -- Turns of a scan.
-use Rattle.std.proofs.Common.{◌≡◌, ℕ, ◌+◌, ◌<◌, ◌≤◌, ◌^◌, List, [], ◌∷◌, ◌++◌, length, take, drop, Option, None, Some, refl, sym, ap, ◌∙◌, subst, arith, append_assoc, length-append}
+use Rattle.std.proofs.Common.{◌≡◌, ℕ, ◌+◌, ◌<◌, ◌≤◌, ◌^◌, List, [], ◌++◌, length, take, drop, Option, None, Some, refl, sym, ap, ◌∙◌, subst, arith, append_assoc, length-append}
 use Rattle.std.proofs.lemmas.List.{append-nil}
 use Rattle.std.proofs.Math.Seq.{take-append_seam, take-append-add}
 use Rattle.std.specs.Prelude.{IfSome}
@@ -7,34 +7,33 @@ use Rattle.outside.specs.Files.{Files, bytes_of}
 use Rattle.outside.specs.Told.{WhereTold}
 use Rattle.key_types.specs.Table.{Entry}
 use Rattle.bti_nodes.specs.declared.damage.Damage.{Damage}
-use Rattle.data_file.specs.Types.{Types}
+use Rattle.key_types.specs.Columns.{Columns}
 use Rattle.table_tool.specs.declared.walk.Walk.{Walk}
 use Rattle.table_tool.specs.declared.walk.Met.TheVariants as met
 use Rattle.table_tool.specs.declared.scan.Scan.{Scan}
 use Rattle.table_tool.specs.declared.scan.Turn.TheVariants.{On, Stopped}
-use Rattle.table_tool.specs.Printed.{entry_line}
-use Rattle.table_tool.specs.Scanned.{Holding, IsBounded, TurnIs}
-use Rattle.table_tool.specs.Scanning.{IsShown, part}
+use Rattle.table_tool.specs.Printed.{entry_lines}
+use Rattle.table_tool.specs.Scanned.{Holding, IsBounded, IsPart, TurnIs}
 use Rattle.table_tool.specs.Outcome.{AppendsPrefix}
-use Rattle.table_tool.specs.Standing.{data_id, first_types}
-use Rattle.table_tool.specs.Steps.{HasKey, Moves, StepIs, inside_of}
+use Rattle.table_tool.specs.Standing.{data_id}
+use Rattle.table_tool.specs.Steps.{HasKey, Moves, Shows, StepIs, inside_of}
 use Rattle.table_tool.specs.Walk.{Walks, Passes, Stops}
 use Rattle.table_tool.specs.Window.{Unread, Continues}
-use Rattle.table_tool.proofs.PrintedLemmas.{lines_more}
+use Rattle.table_tool.proofs.PrintedLemmas.{count_append, lines_append}
 
 -- ---- parts of a walk, one after the other
 
-module _ (types : Types) (file : List ℕ) (entries : List Entry) (inside : Option (List ℕ)) (at : ℕ) (first : Passes types file None 0 entries inside at) where
-  pub passes_on : (inside' : Option (List ℕ)) (at' : ℕ) (more : List Entry) → Passes types file inside at more inside' at' → Passes types file None 0 (entries ++ more) inside' at'
+module _ (columns : Columns) (file : List ℕ) (entries : List Entry) (inside : Option (List ℕ)) (at : ℕ) (first : Passes columns file None 0 entries inside at) where
+  pub passes_on : (inside' : Option (List ℕ)) (at' : ℕ) (more : List Entry) → Passes columns file inside at more inside' at' → Passes columns file None 0 (entries ++ more) inside' at'
   passes_on inside' at' more next = record {
-    onward = λ last stop walk. subst (λ (es : List Entry). Walks types None 0 (drop 0 file) es stop) (sym (append_assoc entries more last)) (first.onward (more ++ last) stop (next.onward last stop walk));
+    onward = λ last stop walk. subst (λ (es : List Entry). Walks columns None 0 (drop 0 file) es stop) (sym (append_assoc entries more last)) (first.onward (more ++ last) stop (next.onward last stop walk));
     only = λ all stop walk. let one = first.only all stop walk in let two = next.only one.0 stop one.2 in
         (two.0, one.1 ∙ (ap (λ es. entries ++ es) two.1 ∙ sym (append_assoc entries more two.0)), two.2);
   }
 
-  pub passes_stop : (stop : Option Damage) → Stops types file inside at [] stop → Stops types file None 0 entries stop
+  pub passes_stop : (stop : Option Damage) → Stops columns file inside at [] stop → Stops columns file None 0 entries stop
   passes_stop stop next = record {
-    here = subst (λ (es : List Entry). Walks types None 0 (drop 0 file) es stop) (append-nil entries) (first.onward [] stop next.here);
+    here = subst (λ (es : List Entry). Walks columns None 0 (drop 0 file) es stop) (append-nil entries) (first.onward [] stop next.here);
     only = λ all other walk. let one = first.only all other walk in let two = next.only one.0 other one.2 in
         (one.1 ∙ (ap (λ es. entries ++ es) two.0 ∙ append-nil entries), two.1);
   }
@@ -48,74 +47,66 @@ told_piece written written' piece text same told = subst (λ (p : List ℕ). Whe
 
 -- ---- turns
 
-module _ (files : Option Files) (scan : Scan) (filled : Unread) (place : filled.at ≡ scan.walk.window.at) (limit : filled.limit ≡ scan.walk.window.limit)
+module _ (columns : Columns) (files : Option Files) (scan : Scan) (filled : Unread) (place : filled.at ≡ scan.walk.window.at) (limit : filled.limit ≡ scan.walk.window.limit)
     (told : IfSome files (λ m. Continues (bytes_of m data_id) scan.walk.window → Continues (bytes_of m data_id) filled)) where
   -- the walk behind the read
   abbrev ahead : Walk
-  ahead = record { window = filled; key = scan.walk.key; inside = scan.walk.inside }
+  ahead = record { window = filled; partition = scan.walk.partition; inside = scan.walk.inside }
 
-  Walked : Walk → List Entry → Type 0
-  Walked walk entries = IfSome files (λ m. Continues (bytes_of m data_id) walk.window × Passes first_types (bytes_of m data_id) None 0 entries (inside_of walk) walk.window.at)
-
-  walked_on : (fs : Option Files) (walk' : Walk) (entries more : List Entry) → Moves ahead walk' more
+  walked_on : (fs : Option Files) (walk' : Walk) (entries more : List Entry) → Moves columns ahead walk' more
       → IfSome fs (λ m. Continues (bytes_of m data_id) scan.walk.window → Continues (bytes_of m data_id) filled)
-      → IfSome fs (λ m. Continues (bytes_of m data_id) scan.walk.window × Passes first_types (bytes_of m data_id) None 0 entries (inside_of scan.walk) scan.walk.window.at)
-      → IfSome fs (λ m. Continues (bytes_of m data_id) walk'.window × Passes first_types (bytes_of m data_id) None 0 (entries ++ more) (inside_of walk') walk'.window.at)
+      → IfSome fs (λ m. Continues (bytes_of m data_id) scan.walk.window × Passes columns (bytes_of m data_id) None 0 entries (inside_of columns scan.walk) scan.walk.window.at)
+      → IfSome fs (λ m. Continues (bytes_of m data_id) walk'.window × Passes columns (bytes_of m data_id) None 0 (entries ++ more) (inside_of columns walk') walk'.window.at)
   walked_on None walk' entries more moves read walked = tt
   walked_on (Some m) walk' entries more moves read walked =
       let next = moves.3 (bytes_of m data_id) (read walked.0) in
-      let from : Passes first_types (bytes_of m data_id) None 0 entries (inside_of scan.walk) filled.at =
-      subst (λ (n : ℕ). Passes first_types (bytes_of m data_id) None 0 entries (inside_of scan.walk) n) (sym place) walked.1 in
-      (next.0, passes_on first_types (bytes_of m data_id) entries (inside_of scan.walk) filled.at from (inside_of walk') walk'.window.at more next.1)
+      let from : Passes columns (bytes_of m data_id) None 0 entries (inside_of columns scan.walk) filled.at =
+      subst (λ (n : ℕ). Passes columns (bytes_of m data_id) None 0 entries (inside_of columns scan.walk) n) (sym place) walked.1 in
+      (next.0, passes_on columns (bytes_of m data_id) entries (inside_of columns scan.walk) filled.at from (inside_of columns walk') walk'.window.at more next.1)
 
-  pub row_turn : (walk' : Walk) (text' : List ℕ) (rows' : ℕ) → rows' ≡ scan.rows + 1 → StepIs ahead walk' scan.text text' met.Row
-      → TurnIs files scan (record { walk = walk'; text = text'; rows = rows' }) On
-  row_turn walk' text' rows' count (entry, line, moves) = (
+  -- more entries are printed, so many of them of rows
+  shown_turn : (walk' : Walk) (text' : List ℕ) (rows rows' : ℕ) → rows' ≡ scan.rows + rows → Shows columns rows ahead walk' scan.text text'
+      → TurnIs columns files scan (record { walk = walk'; text = text'; rows = rows' }) On
+  shown_turn walk' text' rows rows' count (more, of_rows, line, moves) = (
     omega (arith, moves.0, place),
     moves.2 ∙ limit,
     λ pushed entries held. (
-      entries ++ entry ∷ [],
+      entries ++ more,
       record {
-        walked = walked_on files walk' entries (entry ∷ []) moves told held.walked;
-        text = ap (λ t. pushed ++ t) line ∙ (sym (append_assoc pushed scan.text (entry_line entry)) ∙ (ap (λ t. t ++ entry_line entry) held.text ∙ lines_more entries entry));
-        count = omega (arith, count, held.count, length-append entries (entry ∷ []));
+        walked = walked_on files walk' entries more moves told held.walked;
+        text =
+            ap (λ t. pushed ++ t) line ∙ (sym (append_assoc pushed scan.text (entry_lines columns more))
+            ∙ (ap (λ t. t ++ entry_lines columns more) held.text ∙ sym (lines_append columns entries more)));
+        count = omega (arith, count, held.count, of_rows, count_append columns entries more);
       },
     ),
   )
 
-  pub border_turn : (walk' : Walk) (text' : List ℕ) → StepIs ahead walk' scan.text text' met.Border
-      → TurnIs files scan (record { walk = walk'; text = text'; rows = scan.rows }) On
-  unfolding Walked
-  border_turn walk' text' (line, moves) = (
-    omega (arith, moves.0, place),
-    moves.2 ∙ limit,
-    λ pushed entries held. (
-      entries,
-      record {
-        walked = subst (λ (es : List Entry). Walked walk' es) (append-nil entries) (walked_on files walk' entries [] moves told held.walked);
-        text = ap (λ t. pushed ++ t) line ∙ held.text;
-        count = held.count;
-      },
-    ),
-  )
+  pub row_turn : (walk' : Walk) (text' : List ℕ) (rows' : ℕ) → rows' ≡ scan.rows + 1 → StepIs columns ahead walk' scan.text text' met.Row
+      → TurnIs columns files scan (record { walk = walk'; text = text'; rows = rows' }) On
+  row_turn walk' text' rows' count step = shown_turn walk' text' 1 rows' count step
+
+  pub border_turn : (walk' : Walk) (text' : List ℕ) → StepIs columns ahead walk' scan.text text' met.Border
+      → TurnIs columns files scan (record { walk = walk'; text = text'; rows = scan.rows }) On
+  border_turn walk' text' step = shown_turn walk' text' 0 scan.rows (omega arith) step
 
   stopped : (fs : Option Files) (entries : List Entry) (stop : Option Damage)
-      → ((file : List ℕ) → Continues file filled → Stops first_types file (inside_of scan.walk) filled.at [] stop)
+      → ((file : List ℕ) → Continues file filled → Stops columns file (inside_of columns scan.walk) filled.at [] stop)
       → IfSome fs (λ m. Continues (bytes_of m data_id) scan.walk.window → Continues (bytes_of m data_id) filled)
-      → IfSome fs (λ m. Continues (bytes_of m data_id) scan.walk.window × Passes first_types (bytes_of m data_id) None 0 entries (inside_of scan.walk) scan.walk.window.at)
-      → IfSome fs (λ m. Stops first_types (bytes_of m data_id) None 0 entries stop)
+      → IfSome fs (λ m. Continues (bytes_of m data_id) scan.walk.window × Passes columns (bytes_of m data_id) None 0 entries (inside_of columns scan.walk) scan.walk.window.at)
+      → IfSome fs (λ m. Stops columns (bytes_of m data_id) None 0 entries stop)
   stopped None entries stop halts read walked = tt
   stopped (Some m) entries stop halts read walked =
-      let from : Passes first_types (bytes_of m data_id) None 0 entries (inside_of scan.walk) filled.at =
-      subst (λ (n : ℕ). Passes first_types (bytes_of m data_id) None 0 entries (inside_of scan.walk) n) (sym place) walked.1 in
-      passes_stop first_types (bytes_of m data_id) entries (inside_of scan.walk) filled.at from stop (halts (bytes_of m data_id) (read walked.0))
+      let from : Passes columns (bytes_of m data_id) None 0 entries (inside_of columns scan.walk) filled.at =
+      subst (λ (n : ℕ). Passes columns (bytes_of m data_id) None 0 entries (inside_of columns scan.walk) n) (sym place) walked.1 in
+      passes_stop columns (bytes_of m data_id) entries (inside_of columns scan.walk) filled.at from stop (halts (bytes_of m data_id) (read walked.0))
 
-  pub end_turn : (walk' : Walk) (text' : List ℕ) → StepIs ahead walk' scan.text text' met.End
-      → TurnIs files scan (record { walk = walk'; text = text'; rows = scan.rows }) (Stopped None)
+  pub end_turn : (walk' : Walk) (text' : List ℕ) → StepIs columns ahead walk' scan.text text' met.End
+      → TurnIs columns files scan (record { walk = walk'; text = text'; rows = scan.rows }) (Stopped None)
   end_turn walk' text' (line, halts) = (line, refl, λ pushed entries held. stopped files entries None halts told held.walked)
 
-  pub damage_turn : (walk' : Walk) (text' : List ℕ) (damage : Damage) → StepIs ahead walk' scan.text text' (met.Damaged damage)
-      → TurnIs files scan (record { walk = walk'; text = text'; rows = scan.rows }) (Stopped (Some damage))
+  pub damage_turn : (walk' : Walk) (text' : List ℕ) (damage : Damage) → StepIs columns ahead walk' scan.text text' (met.Damaged damage)
+      → TurnIs columns files scan (record { walk = walk'; text = text'; rows = scan.rows }) (Stopped (Some damage))
   damage_turn walk' text' damage (line, halts) = (line, refl, λ pushed entries held. stopped files entries (Some damage) halts told held.walked)
 
 -- ---- all turns
@@ -153,30 +144,31 @@ pushed_on (Some a) None c pushed piece told more = absurd told
 pushed_on (Some a) (Some b) None pushed piece told more = absurd more
 pushed_on (Some a) (Some b) (Some c) pushed piece told more = more ∙ (ap (λ t. t ++ piece) told ∙ append_assoc a pushed piece)
 
-pub shown_part : (files : Option Files) (scan : Scan) (pushed : List ℕ) (entries : List Entry) → Holding files scan pushed entries → IfSome files (λ m. IsShown (bytes_of m data_id) (part entries))
-shown_part None scan pushed entries held = tt
-shown_part (Some m) scan pushed entries held = let walked = held.walked in (inside_of scan.walk, scan.walk.window.at, walked.1)
+module _ (columns : Columns) where
+  pub shown_part : (files : Option Files) (scan : Scan) (pushed : List ℕ) (entries : List Entry) → Holding columns files scan pushed entries → IfSome files (λ m. IsPart columns m entries)
+  shown_part None scan pushed entries held = tt
+  shown_part (Some m) scan pushed entries held = let walked = held.walked in (inside_of columns scan.walk, scan.walk.window.at, walked.1)
 
--- a scan that differs in its text alone
-pub bounded_same : (scan scan' : Scan) → scan'.walk ≡ scan.walk → scan'.rows ≡ scan.rows → IsBounded scan → IsBounded scan'
-bounded_same scan scan' walk rows b = record {
-  key = subst (λ (w : Walk). HasKey w) (sym walk) b.key;
-  rows = subst (λ (w : Walk). scan'.rows ≤ w.window.at) (sym walk) (subst (λ (n : ℕ). n ≤ scan.walk.window.at) (sym rows) b.rows);
-  inside = subst (λ (w : Walk). w.window.at ≤ w.window.limit) (sym walk) b.inside;
-  limit = subst (λ (w : Walk). w.window.limit < 2 ^ 62) (sym walk) b.limit;
-}
+  -- a scan that differs in its text alone
+  pub bounded_same : (scan scan' : Scan) → scan'.walk ≡ scan.walk → scan'.rows ≡ scan.rows → IsBounded columns scan → IsBounded columns scan'
+  bounded_same scan scan' walk rows b = record {
+    key = subst (λ (w : Walk). HasKey columns w) (sym walk) b.key;
+    rows = subst (λ (w : Walk). scan'.rows ≤ w.window.at) (sym walk) (subst (λ (n : ℕ). n ≤ scan.walk.window.at) (sym rows) b.rows);
+    inside = subst (λ (w : Walk). w.window.at ≤ w.window.limit) (sym walk) b.inside;
+    limit = subst (λ (w : Walk). w.window.limit < 2 ^ 62) (sym walk) b.limit;
+  }
 
-pub holding_pushed : (files : Option Files) (scan scan' : Scan) (pushed piece : List ℕ) (entries : List Entry) → scan'.walk ≡ scan.walk → scan'.rows ≡ scan.rows → scan.text ≡ piece ++ scan'.text
-    → Holding files scan pushed entries → Holding files scan' (pushed ++ piece) entries
-holding_pushed files scan scan' pushed piece entries walk rows text held = record {
-  walked = subst (λ (w : Walk). IfSome files (λ m. Continues (bytes_of m data_id) w.window × Passes first_types (bytes_of m data_id) None 0 entries (inside_of w) w.window.at)) (sym walk) held.walked;
-  text = append_assoc pushed piece scan'.text ∙ (ap (λ t. pushed ++ t) (sym text) ∙ held.text);
-  count = rows ∙ held.count;
-}
+  pub holding_pushed : (files : Option Files) (scan scan' : Scan) (pushed piece : List ℕ) (entries : List Entry) → scan'.walk ≡ scan.walk → scan'.rows ≡ scan.rows → scan.text ≡ piece ++ scan'.text
+      → Holding columns files scan pushed entries → Holding columns files scan' (pushed ++ piece) entries
+  holding_pushed files scan scan' pushed piece entries walk rows text held = record {
+    walked = subst (λ (w : Walk). IfSome files (λ m. Continues (bytes_of m data_id) w.window × Passes columns (bytes_of m data_id) None 0 entries (inside_of columns w) w.window.at)) (sym walk) held.walked;
+    text = append_assoc pushed piece scan'.text ∙ (ap (λ t. pushed ++ t) (sym text) ∙ held.text);
+    count = rows ∙ held.count;
+  }
 
--- a turn over the files as they were at first
-pub turned : (now first : Option Files) (scan scan' : Scan) (pushed : List ℕ) (entries : List Entry) → now ≡ first → TurnIs now scan scan' On → Holding first scan pushed entries
-    → (more : List Entry) × Holding first scan' pushed more
-turned now first scan scan' pushed entries same turn held =
-    let more = turn.2 pushed entries (subst (λ (f : Option Files). Holding f scan pushed entries) (sym same) held) in
-    (more.0, subst (λ (f : Option Files). Holding f scan' pushed more.0) same more.1)
+  -- a turn over the files as they were at first
+  pub turned : (now first : Option Files) (scan scan' : Scan) (pushed : List ℕ) (entries : List Entry) → now ≡ first → TurnIs columns now scan scan' On → Holding columns first scan pushed entries
+      → (more : List Entry) × Holding columns first scan' pushed more
+  turned now first scan scan' pushed entries same turn held =
+      let more = turn.2 pushed entries (subst (λ (f : Option Files). Holding columns f scan pushed entries) (sym same) held) in
+      (more.0, subst (λ (f : Option Files). Holding columns f scan' pushed more.0) same more.1)

@@ -149,6 +149,12 @@ pub second_failed : (f0 f1 f2 : Option Files) (file other : FileId) (p0 a p1 b :
 second_failed f0 f1 f2 file other p0 a p1 b is first second =
     told_then f0 f1 f2 _ _ _ (λ xs ys zs p q. (q.0, joined_put xs ys zs file p0 a p1 b q.0 p q.1)) first (subst (λ (f : FileId). PutSome f1 f2 f (p1 ++ b)) is second)
 
+-- a piece, and then another, whatever came of it
+pub then_puts : {T E : Type 0} (f0 f1 f2 : Option Files) (file other : FileId) (r : Result T E) (p0 a p1 b p2 : List ℕ) → other ≡ file
+    → Put f0 f1 file (p0 ++ a) p1 → Puts f1 f2 other r (p1 ++ b) p2 → Puts f0 f2 file r (p0 ++ (a ++ b)) p2
+then_puts f0 f1 f2 file other (Ok x) p0 a p1 b p2 is first second = both_pieces f0 f1 f2 file other p0 a p1 b p2 is first second
+then_puts f0 f1 f2 file other (Err e) p0 a p1 b p2 is first second = second_failed f0 f1 f2 file other p0 a p1 b is first second
+
 -- the first of two pieces failed
 pub first_failed : (f0 f1 : Option Files) (file : FileId) (p0 a b : List ℕ) → PutSome f0 f1 file (p0 ++ a) → PutSome f0 f1 file (p0 ++ (a ++ b))
 first_failed f0 f1 file p0 a b first =

@@ -39,6 +39,7 @@ damage_text BadRow = codes "bad row"
 -- the line that a refusal ends with; Ok, a fault of the sink and want of memory have none
 abbrev pub fault_line : Status → List ℕ
 fault_line status.Usage = codes "error: usage\n"
+fault_line status.Key = codes "error: key\n"
 fault_line (status.BadLine line cause) = codes "error: line " ++ decimal line ++ codes ": " ++ cause_text cause ++ codes "\n"
 fault_line status.SourceFault = codes "error: source fault\n"
 fault_line status.StoreFault = codes "error: store fault\n"

@@ -1,61 +1,72 @@
--- Rows in order, taken together by their partitions. Only private contracts cite it: what users see of it is `Holds`.
-use Rattle.std.specs.Prelude.{◌≡◌, ℕ, Bool, true, not, List, [], ◌∷◌, ◌++◌, take, drop, ℤ, Option, None, Some, if◌then◌else◌, nat_eq}
+-- Entries in order, taken together by their partitions. Only private contracts cite it: what users see of it is `Holds`.
+use Rattle.std.specs.Prelude.{◌≡◌, ℕ, Bool, true, not, List, [], ◌∷◌, ◌++◌, Option, None, Some, if◌then◌else◌, nat_eq}
 use Rattle.std.specs.Cmp.Lexicographic.{pointwise}
+use Rattle.key_types.specs.Columns.{Columns}
 use Rattle.key_types.specs.Table.{Entry}
-use Rattle.key_types.specs.declared.schema.ValueType.TheVariants.{Text}
-use Rattle.data_file.specs.Strings.{IsValueOf}
-use Rattle.data_file.specs.Listing.{Row, Partition, head_bytes, end_bytes}
-use Rattle.table_tool.specs.First.{IsInt, int_partition, no_clustering}
+use Rattle.key_types.specs.declared.schema.ValueType.{ValueType}
+use Rattle.key_decode.specs.Strings.{IsStringOf}
+use Rattle.data_file.specs.Listing.{Row, Partition, IsFixed, IsRow, head_bytes, fixed_bytes, row_bytes, end_bytes}
+use Rattle.table_tool.specs.Entries.{clustering_in, partition_in, has_some}
 
 -- ---- the parts of an entry
 
--- an entry of a table of `(int; ; text)`: the string of a row, and a value
-pub record IsEntry (entry : Entry) : Type 0 where
-  pub number : ℤ
-  pub fits : IsInt number
-  pub string : entry.0 ≡ int_partition number ++ no_clustering
-  pub value : IsValueOf Text entry.1
+-- what stands behind the partition's string is that of a row of the table, or nothing, and then the value is a static one
+abbrev pub IsBehind : Columns → List ℕ → List ℕ → Type 0
+IsBehind columns [] value = IsFixed columns.static_value (Some value)
+IsBehind columns (b ∷ bs) value = IsRow columns (b ∷ bs) value
 
-abbrev pub AreEntries : List Entry → Type 0
-AreEntries [] = Unit {0}
-AreEntries (entry ∷ entries) = IsEntry entry × AreEntries entries
+-- an entry of a table: its key's string is that of a partition, and behind it that of a row or nothing
+pub record IsEntry (columns : Columns) (entry : Entry) : Type 0 where
+  pub partition : IsStringOf columns.partition (partition_in columns entry.0)
+  pub behind : IsBehind columns (clustering_in columns entry.0) entry.1
+  pub parts : partition_in columns entry.0 ++ clustering_in columns entry.0 ≡ entry.0
 
--- the string of the row's partition, which has six bytes there
-abbrev pub partition_in : List ℕ → List ℕ
-partition_in string = take 6 string
+abbrev pub AreEntries : Columns → List Entry → Type 0
+AreEntries columns [] = Unit {0}
+AreEntries columns (entry ∷ entries) = IsEntry columns entry × AreEntries columns entries
 
--- that of the row within its partition
-abbrev pub clustering_in : List ℕ → List ℕ
-clustering_in string = drop 6 string
+-- the static value of an entry behind whose partition's string these bytes stand
+abbrev pub fixed_by : List ℕ → List ℕ → Option (List ℕ)
+fixed_by [] value = Some value
+fixed_by (b ∷ bs) value = None
+
+-- its rows: one, or none where it is of a static value
+abbrev pub rows_by : List ℕ → List ℕ → List Row
+rows_by [] value = []
+rows_by (b ∷ bs) value = record { clustering = b ∷ bs; value = value } ∷ []
 
 -- ---- the partitions
 
-abbrev pub row_of : Entry → Row
-row_of entry = record { clustering = clustering_in entry.0; value = entry.1 }
+abbrev pub fixed_in : Columns → Entry → Option (List ℕ)
+fixed_in columns entry = fixed_by (clustering_in columns entry.0) entry.1
 
--- a partition of one row
-abbrev pub alone : Entry → Partition
-alone entry = record { key = partition_in entry.0; fixed = None; rows = row_of entry ∷ [] }
+abbrev pub rows_in : Columns → Entry → List Row
+rows_in columns entry = rows_by (clustering_in columns entry.0) entry.1
 
--- a row in front of a partition's rows
-abbrev pub with_row : Row → Partition → Partition
-with_row row partition = record { key = partition.key; fixed = partition.fixed; rows = row ∷ partition.rows }
+-- a partition of one entry
+abbrev pub alone : Columns → Entry → Partition
+alone columns entry = record { key = partition_in columns entry.0; fixed = fixed_in columns entry; rows = rows_in columns entry }
 
--- an entry in front of partitions: a row of the first one, where it is of that, and else a partition of its own
-abbrev pub joined : Entry → List Partition → List Partition
-joined entry [] = alone entry ∷ []
-joined entry (partition ∷ partitions) =
-    if pointwise nat_eq partition.key (partition_in entry.0) then with_row (row_of entry) partition ∷ partitions
-    else alone entry ∷ partition ∷ partitions
+-- an entry in front of a partition, which has no static value of its own where entries are in order
+abbrev pub with_entry : Columns → Entry → Partition → Partition
+with_entry columns entry partition =
+    record { key = partition.key; fixed = fixed_in columns entry; rows = rows_in columns entry ++ partition.rows }
+
+-- an entry in front of partitions: in the first one, where it is of that, and else a partition of its own
+abbrev pub joined : Columns → Entry → List Partition → List Partition
+joined columns entry [] = alone columns entry ∷ []
+joined columns entry (partition ∷ partitions) =
+    if pointwise nat_eq partition.key (partition_in columns entry.0) then with_entry columns entry partition ∷ partitions
+    else alone columns entry ∷ partition ∷ partitions
 
 -- the partitions of entries in order
-abbrev pub grouped : List Entry → List Partition
-grouped [] = []
-grouped (entry ∷ entries) = joined entry (grouped entries)
+abbrev pub grouped : Columns → List Entry → List Partition
+grouped columns [] = []
+grouped columns (entry ∷ entries) = joined columns entry (grouped columns entries)
 
 -- ---- what is written of an entry
 
--- whether a row of this partition begins it, behind a row of the open one
+-- whether an entry of this partition begins it, behind an entry of the open one
 abbrev pub begins : Option (List ℕ) → List ℕ → Bool
 begins None partition = true
 begins (Some last) partition = not (pointwise nat_eq last partition)
@@ -65,10 +76,20 @@ abbrev pub end_behind : Option (List ℕ) → List ℕ
 end_behind None = []
 end_behind (Some last) = end_bytes
 
--- what stands before a row of this partition
-abbrev pub before_row : Option (List ℕ) → List ℕ → List ℕ
-before_row last partition = if begins last partition then end_behind last ++ head_bytes partition else []
+-- what stands before the row of an entry of this partition
+abbrev pub before_row : Option ValueType → Option (List ℕ) → List ℕ → Option (List ℕ) → List ℕ
+before_row static last partition fixed =
+    if begins last partition then end_behind last ++ (head_bytes partition ++ fixed_bytes static fixed) else []
+
+-- the row, where the entry is of one
+abbrev pub written_row : List ℕ → List ℕ → List ℕ
+written_row [] value = []
+written_row (b ∷ bs) value = row_bytes (b ∷ bs) value
 
 -- how many partitions begin with it
 abbrev pub begun_at : Option (List ℕ) → List ℕ → ℕ
 begun_at last partition = if begins last partition then 1 else 0
+
+-- how many rows it is
+abbrev pub row_at : List ℕ → ℕ
+row_at clustering = if has_some clustering then 1 else 0

@@ -1,5 +1,5 @@
-pub mod First
 pub mod Request
+pub mod Entries
 pub mod Rows
 pub mod Standing
 pub mod Window
@@ -14,5 +14,6 @@ pub mod Scanning
 pub mod Scanned
 pub mod Grouping
 pub mod Loading
+pub mod Keys
 pub mod Run
 pub mod Numbers

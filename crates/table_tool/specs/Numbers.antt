@@ -7,6 +7,7 @@ use Rattle.table_tool.specs.declared.status.Status.TheVariants as status
 abbrev pub number_of : Status → ℕ
 number_of status.Ok = 0
 number_of status.Usage = 1
+number_of status.Key = 1
 number_of (status.BadLine line cause) = 2
 number_of status.SourceFault = 4
 number_of status.SinkFault = 5

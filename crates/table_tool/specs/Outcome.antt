@@ -2,6 +2,7 @@
 use Rattle.std.specs.Prelude.{◌≡◌, ◌⊎◌, ℕ, ◌≤◌, List, ◌++◌, length, take, Option, Result, Ok, Err, IfSome}
 use Rattle.outside.specs.Told.{WhereTold}
 use Rattle.outside.specs.Causes.{Rose}
+use Rattle.key_types.specs.Columns.{Columns}
 use Rattle.table_tool.specs.declared.status.Status.{Status}
 use Rattle.table_tool.specs.declared.status.Status.TheVariants as status
 use Rattle.table_tool.specs.FaultLine.{fault_line}
@@ -57,14 +58,14 @@ abbrev pub IsOrNoMemory : Status → Status → Type 0
 IsOrNoMemory expected status.NoMemory = Unit {0}
 IsOrNoMemory expected result = result ≡ expected
 
--- How `list` ends: from what the source has left, what was written before and after, and the counts of faults before and after.
-pub record ListEnds (left : Option (List ℕ)) (source source' : ℕ) (written written' : Option (List ℕ)) (sink sink' : ℕ) (result : Status) : Type 0 where
+-- How `list` ends: from the columns of its schema, what the source has left, what was written before and after, and the counts of faults before and after.
+pub record ListEnds (columns : Columns) (left : Option (List ℕ)) (source source' : ℕ) (written written' : Option (List ℕ)) (sink sink' : ℕ) (result : Status) : Type 0 where
   -- a fault comes only where the count of that object's faults rose
   pub source_fault : result ≡ status.SourceFault → Rose source source'
   pub sink_fault : result ≡ status.SinkFault → Rose sink sink'
   -- every other status is the one that the source's bytes give: so BadLine and TooLarge come exactly where the script is refused for it
-  pub decided : IfSome left (λ bytes. Decides result (listing bytes))
+  pub decided : IfSome left (λ bytes. Decides result (listing columns bytes))
   -- completeness: where the script is accepted and no count of faults rose, it is Ok
-  pub complete : IfSome left (λ bytes. (text : List ℕ) → listing bytes ≡ Ok text → ¬ (Rose source source') → ¬ (Rose sink sink') → IsOrNoMemory status.Ok result)
-  -- the rows of the sorted map of all puts, and how many there are
-  pub rows : IfSome left (λ bytes. WhereTold written written' (Writes result (listing bytes)))
+  pub complete : IfSome left (λ bytes. (text : List ℕ) → listing columns bytes ≡ Ok text → ¬ (Rose source source') → ¬ (Rose sink sink') → IsOrNoMemory status.Ok result)
+  -- the rows and static values of the sorted map of all puts, and how many rows there are
+  pub rows : IfSome left (λ bytes. WhereTold written written' (Writes result (listing columns bytes)))

@@ -1,39 +1,68 @@
--- What is printed of rows. This project's own.
-use Rattle.std.specs.Prelude.{◌≡◌, ℕ, ◌^◌, List, [], ◌∷◌, ◌++◌, length, ℤ, pos, ◌-ℤ◌, codes, IsTrue}
-use Rattle.std.specs.Int.{w32, from_be_bytes}
+-- What is printed of rows and static values. This project's own.
+use Rattle.std.specs.Prelude.{◌≡◌, ℕ, true, false, List, [], ◌∷◌, ◌++◌, Option, Some, None, Result, Ok, Err, codes}
 use Rattle.std.specs.Fmt.{decimal}
-use Rattle.key_types.specs.Kinds.{Kinds, more, end, int, Vals, and, none, number, fits_by}
-use Rattle.key_types.specs.Literals.{list_literal, text_literal}
+use Rattle.key_types.specs.declared.schema.ValueType.{ValueType}
+use Rattle.key_types.specs.Columns.{Columns}
+use Rattle.key_types.specs.Kinds.{Vals, EachFits}
 use Rattle.key_types.specs.Table.{Entry}
-use Rattle.table_tool.specs.First.{int_partition}
+use Rattle.byte_comparable.specs.Encoding.{key_string}
+use Rattle.key_decode.specs.Reading.{values_at}
+use Rattle.key_text.specs.Written.{row_literal, static_literal}
+use Rattle.table_tool.specs.Entries.{is_row, row_count}
 
--- the line of a row with a text value: its partition, its clustering, and its value
-abbrev pub row_line : Kinds → Kinds → Vals → Vals → List ℕ → List ℕ
-row_line partition_types clustering_types partition clustering value =
-    list_literal partition_types partition ++ codes " " ++ list_literal clustering_types clustering ++ codes " = " ++ text_literal value ++ codes "\n"
+-- ---- lines
 
--- the number that a row's string begins with, behind the separator: four bytes, with the sign bit inverted
-abbrev pub number_in : List ℕ → ℤ
-number_in (_ ∷ a ∷ b ∷ c ∷ d ∷ _) = pos (from_be_bytes w32 (a ∷ b ∷ c ∷ d ∷ [])) -ℤ pos (2 ^ 31)
-number_in _ = pos 0
+-- the line of a row: its partition's components, those within it, and its value
+abbrev pub row_line : Columns → Vals → Vals → List ℕ → List ℕ
+row_line columns partition clustering value =
+    row_literal columns.partition columns.clustering columns.value partition clustering value ++ codes "\n"
 
--- the line of an entry under the schema `(int; ; text)`
-abbrev pub entry_line : Entry → List ℕ
-entry_line entry = row_line (more int end) end (and (number (number_in entry.0)) none) none entry.1
+-- the line of a static value of this type
+abbrev pub static_line : Columns → ValueType → Vals → List ℕ → List ℕ
+static_line columns type partition value = static_literal columns.partition type partition value ++ codes "\n"
 
-abbrev pub entry_lines : List Entry → List ℕ
-entry_lines [] = []
-entry_lines (entry ∷ entries) = entry_line entry ++ entry_lines entries
+-- ---- the line of an entry, whose key is a string
+
+abbrev pub static_by : Columns → Option ValueType → Vals → List ℕ → List ℕ
+static_by columns None partition value = []
+static_by columns (Some type) partition value = static_line columns type partition value
+
+abbrev pub row_by : Columns → Vals → Result (Vals × List ℕ) ℕ → List ℕ → List ℕ
+row_by columns partition (Ok found) value = row_line columns partition found.0 value
+row_by columns partition (Err left) value = []
+
+-- nothing behind the partition's string names the static value
+abbrev pub line_behind : Columns → Vals → List ℕ → List ℕ → List ℕ
+line_behind columns partition [] value = static_by columns columns.static_value partition value
+line_behind columns partition (b ∷ bs) value = row_by columns partition (values_at columns.clustering (b ∷ bs)) value
+
+abbrev pub line_by : Columns → Result (Vals × List ℕ) ℕ → List ℕ → List ℕ
+line_by columns (Ok found) value = line_behind columns found.0 found.1 value
+line_by columns (Err left) value = []
+
+-- the components are read from the string: that the line names those which the string is made of is the law below
+abbrev pub entry_line : Columns → Entry → List ℕ
+entry_line columns entry = line_by columns (values_at columns.partition entry.0) entry.1
+
+abbrev pub entry_lines : Columns → List Entry → List ℕ
+entry_lines columns [] = []
+entry_lines columns (entry ∷ entries) = entry_line columns entry ++ entry_lines columns entries
 
 -- the last line: how many rows there are
 abbrev pub count_line : ℕ → List ℕ
 count_line n = codes "rows " ++ decimal n ++ codes "\n"
 
--- the lines of the rows in order, and the last line
-abbrev pub rows_text : List Entry → List ℕ
-rows_text rows = entry_lines rows ++ count_line (length rows)
+-- the lines of the entries in order, and the last line, which counts rows alone
+abbrev pub rows_text : Columns → List Entry → List ℕ
+rows_text columns entries = entry_lines columns entries ++ count_line (row_count columns entries)
 
--- the line of a row whose partition is that of a number names this number
-abbrev pub NumbersAreNamed : Type 0
-NumbersAreNamed = (n : ℤ) (rest value : List ℕ) → IsTrue (fits_by int (number n))
-    → entry_line (int_partition n ++ rest, value) ≡ row_line (more int end) end (and (number n) none) none value
+-- ---- the law
+
+-- the entry of a row prints the line of the row's components, and that of a static value the line of its partition's
+pub record KeysAreNamed : Type 0 where
+  pub row : (columns : Columns) (partition clustering : Vals) (value : List ℕ) → EachFits columns.partition partition → EachFits columns.clustering clustering
+      → (entry_line columns (key_string columns.partition partition ++ key_string columns.clustering clustering, value) ≡ row_line columns partition clustering value)
+      × (is_row columns (key_string columns.partition partition ++ key_string columns.clustering clustering, value) ≡ true)
+  pub fixed : (columns : Columns) (type : ValueType) (partition : Vals) (value : List ℕ) → columns.static_value ≡ Some type → EachFits columns.partition partition
+      → (entry_line columns (key_string columns.partition partition, value) ≡ static_line columns type partition value)
+      × (is_row columns (key_string columns.partition partition, value) ≡ false)

@@ -1,35 +1,64 @@
 -- What one step of a walk does. This project's own; only private contracts cite it.
-use Rattle.std.specs.Prelude.{◌≡◌, ℕ, ◌<◌, ◌≤◌, true, List, [], ◌∷◌, ◌++◌, length, Option, Some, None, if◌then◌else◌}
+use Rattle.std.specs.Prelude.{◌≡◌, ◌⊎◌, ℕ, ◌<◌, ◌≤◌, true, List, [], ◌++◌, length, Option, Some, None, IsSome, if◌then◌else◌}
+use Rattle.key_types.specs.Columns.{Columns}
+use Rattle.key_types.specs.Kinds.{EachFits, values_of}
 use Rattle.key_types.specs.Table.{Entry}
+use Rattle.byte_comparable.specs.Encoding.{key_string}
 use Rattle.bti_nodes.specs.declared.damage.Damage.{Damage}
+use Rattle.data_file.specs.Listing.{IsFixed, fixed_bytes}
+use Rattle.data_file.specs.Reading.{NoFixed}
 use Rattle.table_tool.specs.declared.walk.Walk.{Walk}
 use Rattle.table_tool.specs.declared.walk.Met.{Met}
 use Rattle.table_tool.specs.declared.walk.Met.TheVariants.{Row, Border, End, Damaged}
-use Rattle.table_tool.specs.Printed.{entry_line}
-use Rattle.table_tool.specs.Standing.{first_types}
+use Rattle.table_tool.specs.Entries.{row_count}
+use Rattle.table_tool.specs.Printed.{entry_lines}
 use Rattle.table_tool.specs.Window.{Continues}
 use Rattle.table_tool.specs.Walk.{Passes, Stops}
 
--- the partition that the walk is in
-abbrev pub inside_of : Walk → Option (List ℕ)
-inside_of walk = if walk.inside then Some walk.key else None
+-- over a table with these columns
+module _ (columns : Columns) where
+  -- the string of the partition whose components the walk has
+  abbrev pub key_of : Walk → List ℕ
+  key_of walk = key_string columns.partition (values_of walk.partition)
 
--- the string of that partition names a number
-abbrev pub HasKey : Walk → Type 0
-HasKey walk = walk.inside ≡ true → 5 ≤ length walk.key
+  -- the partition that the walk is in
+  abbrev pub inside_of : Walk → Option (List ℕ)
+  inside_of walk = if walk.inside then Some (key_of walk) else None
 
--- over every file that the window is one of, the walk passes these entries, and the window is of the file still
-abbrev pub Moves : Walk → Walk → List Entry → Type 0
-Moves walk walk' entries = (walk.window.at < walk'.window.at) × (walk'.window.at ≤ walk'.window.limit) × (walk'.window.limit ≡ walk.window.limit) × ((file : List ℕ) → Continues file walk.window
-    → Continues file walk'.window × Passes first_types file (inside_of walk) walk.window.at entries (inside_of walk') walk'.window.at)
+  -- inside a partition the walk has its components
+  abbrev pub HasKey : Walk → Type 0
+  HasKey walk = walk.inside ≡ true → EachFits columns.partition (values_of walk.partition)
 
--- over every such file the walk stops here
-abbrev pub Halts : Walk → Option Damage → Type 0
-Halts walk stop = (file : List ℕ) → Continues file walk.window → Stops first_types file (inside_of walk) walk.window.at [] stop
+  -- over every file that the window is one of, the walk passes these entries, and the window is of the file still
+  abbrev pub Moves : Walk → Walk → List Entry → Type 0
+  Moves walk walk' entries = (walk.window.at < walk'.window.at) × (walk'.window.at ≤ walk'.window.limit) × (walk'.window.limit ≡ walk.window.limit)
+      × ((file : List ℕ) → Continues file walk.window
+      → Continues file walk'.window × Passes columns file (inside_of walk) walk.window.at entries (inside_of walk') walk'.window.at)
 
--- from a walk to the walk after a step that met this, and from the text before it to the text after it
-abbrev pub StepIs : Walk → Walk → List ℕ → List ℕ → Met → Type 0
-StepIs walk walk' text text' Row = (entry : Entry) × (text' ≡ text ++ entry_line entry) × Moves walk walk' (entry ∷ [])
-StepIs walk walk' text text' Border = (text' ≡ text) × Moves walk walk' []
-StepIs walk walk' text text' End = (text' ≡ text) × Halts walk None
-StepIs walk walk' text text' (Damaged damage) = (text' ≡ text) × Halts walk (Some damage)
+  -- over every such file the walk stops here
+  abbrev pub Halts : Walk → Option Damage → Type 0
+  Halts walk stop = (file : List ℕ) → Continues file walk.window → Stops columns file (inside_of walk) walk.window.at [] stop
+
+  -- entries, so many of them of rows, were passed and printed
+  abbrev pub Shows : ℕ → Walk → Walk → List ℕ → List ℕ → Type 0
+  Shows rows walk walk' text text' =
+      (entries : List Entry) × (row_count columns entries ≡ rows) × (text' ≡ text ++ entry_lines columns entries) × Moves walk walk' entries
+
+  -- from a walk to the walk after a step that met this, and from the text before it to the text after it
+  abbrev pub StepIs : Walk → Walk → List ℕ → List ℕ → Met → Type 0
+  StepIs walk walk' text text' Row = Shows 1 walk walk' text text'
+  StepIs walk walk' text text' Border = Shows 0 walk walk' text text'
+  StepIs walk walk' text text' End = (text' ≡ text) × Halts walk None
+  StepIs walk walk' text text' (Damaged damage) = (text' ≡ text) × Halts walk (Some damage)
+
+-- ---- the static part behind a head
+
+-- the bytes begin with the static part of this value, which has so many bytes; without a static type it has none
+abbrev pub IsFixedBehind : Columns → List ℕ → Option (List ℕ) → ℕ → Type 0
+IsFixedBehind columns bytes fixed count = IsFixed columns.static_value fixed × (count ≡ length (fixed_bytes columns.static_value fixed))
+    × ((rest : List ℕ) × (bytes ≡ fixed_bytes columns.static_value fixed ++ rest))
+
+-- the table has a static type, and no static part begins there: whatever follows, or with too few bytes for the longest
+abbrev pub NoFixedBehind : Columns → List ℕ → Type 0
+NoFixedBehind columns bytes = IsSome columns.static_value
+    × ((NoFixed columns bytes × (length bytes < 65538)) ⊎ ((more : List ℕ) → NoFixed columns (bytes ++ more)))

@@ -71,6 +71,7 @@ pub fn fault_line(alloc: Global, status: Status) -> Result<ByteList, NoMemory>
     match status {
         Status::Ok | Status::SinkFault | Status::NoMemory => {}
         Status::Usage => out.extend(b"error: usage\n")?,
+        Status::Key => out.extend(b"error: key\n")?,
         Status::SourceFault => out.extend(b"error: source fault\n")?,
         Status::StoreFault => out.extend(b"error: store fault\n")?,
         Status::Damaged(damage) => put_damage(&mut out, damage)?,

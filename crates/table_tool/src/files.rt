@@ -30,9 +30,6 @@ pub const SCHEMA: FileId = FileId {
     part: Part::Schema,
 };
 
-/// The whole text of the file of the schema `(int; ; text)`.
-pub const SCHEMA_TEXT: &[u8] = b"bti-table 1\n(int; ; text)\nend\n";
-
 /// Whether the file is there.
 fn is_there<K: Store>(store: &mut K, file: FileId) -> Result<bool, Failed>
     ensures told { Tells (λ old. is_there old file) (K.files store.old) result }

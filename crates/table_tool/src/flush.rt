@@ -1,30 +1,26 @@
-//! The rows of a table, put into its files.
-ghost use Rattle.std.specs.Prelude.{◌≡◌, ◌<◌, ◌≤◌, ◌+◌, ◌^◌, ◌++◌, length, None, IfOk, OnOk, Err};
+//! The entries of a table, put into its files.
+ghost use Rattle.std.specs.Prelude.{◌≡◌, ◌<◌, ◌≤◌, ◌+◌, ◌^◌, ◌++◌, length, IfOk, IfSome, OnOk, Err};
 ghost use Rattle.std.specs.Option.{option_copied};
 ghost use Rattle.outside.specs.Causes.{Rose};
-ghost use Rattle.data_file.specs.Listing.{data_bytes, head_bytes, row_bytes};
+ghost use Rattle.key_types.specs.Columns.{columns_of};
+ghost use Rattle.data_file.specs.Listing.{data_bytes, fixed_bytes, head_bytes};
 ghost use Rattle.data_file.specs.Writing.{Finishes, Puts};
-ghost use Rattle.table_tool.specs.Standing.{data_id, schema_id};
-ghost use Rattle.table_tool.specs.Grouping.{AreEntries, partition_in, clustering_in, grouped, begins, begun_at, before_row, end_behind};
+ghost use Rattle.table_tool.specs.Entries.{row_count};
+ghost use Rattle.table_tool.specs.Standing.{data_id};
+ghost use Rattle.table_tool.specs.Grouping.{AreEntries, grouped, begins, begun_at, before_row, end_behind, fixed_by, written_row};
 ghost use Rattle.table_tool.specs.Loading.{Flushes};
 
-use crate::files::{DATA, SCHEMA, SCHEMA_TEXT};
+use crate::files::{DATA, SCHEMA};
+use crate::parts::{part, row_at};
+use crate::schema_file::schema_text;
 use crate::table::Rows;
 use bti_nodes::PackError;
-use data_file::DataWriter;
+use data_file::{Counts, DataWriter};
+use key_types::Schema;
 use outside::Store;
 use std::alloc::Global;
 
-/// Splits the string of a row into that of its partition and that of the row within it.
-fn split_row(string: &[u8]) -> (&[u8], &[u8])
-    requires { 6 ≤ length string.now }
-    ensures partition { result.0.now ≡ partition_in string.now }
-    ensures clustering { result.1.now ≡ clustering_in string.now }
-{
-    string.split_at(6)
-}
-
-/// Whether a row of this partition begins it, behind a row of the open one.
+/// Whether an entry of this partition begins it, behind an entry of the open one.
 fn begins(last: Option<&[u8]>, partition: &[u8]) -> bool
     ensures { result ≡ begins (option_copied last.entry) partition.now }
 {
@@ -54,91 +50,198 @@ fn end_partition<K: Store>(
     }
 }
 
-/// Begins a partition, behind the end of the open one.
-fn begin_partition<K: Store>(
+/// Writes the static part of the partition that was just begun, where the table has a static type.
+fn put_fixed<K: Store>(
     writer: &mut DataWriter,
-    last: Option<&[u8]>,
+    schema: &Schema,
+    fixed: Option<&[u8]>,
+    store: &mut K,
+) -> Result<(), PackError>
+    requires value { IfSome fixed (λ v. length v.now < 2 ^ 16) }
+    requires place { writer.old.position < 2 ^ 60 }
+    ensures position { OnOk result (writer.new.position ≡ writer.old.position + length (fixed_bytes schema.now.static_value (option_copied fixed.entry))) }
+    ensures file { writer.new.file ≡ writer.old.file }
+    ensures written { Puts (K.files store.old) (K.files store.new) writer.old.file result
+        (writer.old.pending ++ fixed_bytes schema.now.static_value (option_copied fixed.entry)) writer.new.pending }
+    ensures later { K.faults store.old ≤ K.faults store.new }
+    ensures fault { result ≡ Err PackError.StoreFault → Rose (K.faults store.old) (K.faults store.new) }
+{
+    if schema.static_value.is_some() {
+        writer.fixed(fixed, store)?;
+    }
+    Ok(())
+}
+
+/// Writes the head of a partition, and its static part.
+fn open_partition<K: Store>(
+    writer: &mut DataWriter,
+    schema: &Schema,
     partition: &[u8],
+    fixed: Option<&[u8]>,
     store: &mut K,
 ) -> Result<(), PackError>
     requires key { length partition.now ≤ 1024 }
+    requires value { IfSome fixed (λ v. length v.now < 2 ^ 16) }
     requires place { writer.old.position < 2 ^ 59 }
-    ensures position { OnOk result (writer.new.position ≡ writer.old.position + length (end_behind (option_copied last.entry) ++ head_bytes partition.now)) }
+    ensures position { OnOk result (writer.new.position ≡ writer.old.position
+        + length (head_bytes partition.now ++ fixed_bytes schema.now.static_value (option_copied fixed.entry))) }
     ensures file { writer.new.file ≡ writer.old.file }
     ensures written { Puts (K.files store.old) (K.files store.new) writer.old.file result
-        (writer.old.pending ++ (end_behind (option_copied last.entry) ++ head_bytes partition.now)) writer.new.pending }
+        (writer.old.pending ++ (head_bytes partition.now ++ fixed_bytes schema.now.static_value (option_copied fixed.entry))) writer.new.pending }
+    ensures later { K.faults store.old ≤ K.faults store.new }
+    ensures fault { result ≡ Err PackError.StoreFault → Rose (K.faults store.old) (K.faults store.new) }
+{
+    writer.open_partition(partition, store)?;
+    put_fixed(writer, schema, fixed, store)
+}
+
+/// Begins a partition, behind the end of the open one.
+fn begin_partition<K: Store>(
+    writer: &mut DataWriter,
+    schema: &Schema,
+    last: Option<&[u8]>,
+    partition: &[u8],
+    fixed: Option<&[u8]>,
+    store: &mut K,
+) -> Result<(), PackError>
+    requires key { length partition.now ≤ 1024 }
+    requires value { IfSome fixed (λ v. length v.now < 2 ^ 16) }
+    requires place { writer.old.position < 2 ^ 58 }
+    ensures position { OnOk result (writer.new.position ≡ writer.old.position
+        + length (end_behind (option_copied last.entry) ++ (head_bytes partition.now ++ fixed_bytes schema.now.static_value (option_copied fixed.entry)))) }
+    ensures file { writer.new.file ≡ writer.old.file }
+    ensures written { Puts (K.files store.old) (K.files store.new) writer.old.file result
+        (writer.old.pending ++ (end_behind (option_copied last.entry) ++ (head_bytes partition.now ++ fixed_bytes schema.now.static_value (option_copied fixed.entry)))) writer.new.pending }
     ensures later { K.faults store.old ≤ K.faults store.new }
     ensures fault { result ≡ Err PackError.StoreFault → Rose (K.faults store.old) (K.faults store.new) }
 {
     end_partition(writer, last, store)?;
-    writer.open_partition(partition, store)?;
-    Ok(())
+    open_partition(writer, schema, partition, fixed, store)
 }
 
 /// Begins the partition where it isn't the open one.
 fn turn_to<K: Store>(
     writer: &mut DataWriter,
+    schema: &Schema,
     last: Option<&[u8]>,
     partition: &[u8],
+    fixed: Option<&[u8]>,
     store: &mut K,
 ) -> Result<(), PackError>
     requires key { length partition.now ≤ 1024 }
-    requires place { writer.old.position < 2 ^ 59 }
-    ensures position { OnOk result (writer.new.position ≡ writer.old.position + length (before_row (option_copied last.entry) partition.now)) }
+    requires value { IfSome fixed (λ v. length v.now < 2 ^ 16) }
+    requires place { writer.old.position < 2 ^ 58 }
+    ensures position { OnOk result (writer.new.position ≡ writer.old.position
+        + length (before_row schema.now.static_value (option_copied last.entry) partition.now (option_copied fixed.entry))) }
     ensures file { writer.new.file ≡ writer.old.file }
     ensures written { Puts (K.files store.old) (K.files store.new) writer.old.file result
-        (writer.old.pending ++ before_row (option_copied last.entry) partition.now) writer.new.pending }
+        (writer.old.pending ++ before_row schema.now.static_value (option_copied last.entry) partition.now (option_copied fixed.entry)) writer.new.pending }
     ensures later { K.faults store.old ≤ K.faults store.new }
     ensures fault { result ≡ Err PackError.StoreFault → Rose (K.faults store.old) (K.faults store.new) }
 {
     if begins(last, partition) {
-        begin_partition(writer, last, partition, store)
+        begin_partition(writer, schema, last, partition, fixed, store)
     } else {
         Ok(())
     }
 }
 
-/// How many partitions begin with a row of this one.
+/// The static value of an entry behind whose partition's string these bytes stand.
+fn fixed_by<'v>(clustering: &[u8], value: &'v [u8]) -> Option<&'v [u8]>
+    ensures { option_copied result ≡ fixed_by clustering.now value.now }
+{
+    if clustering.is_empty() {
+        Some(value)
+    } else {
+        None
+    }
+}
+
+/// Writes the row of such an entry, where it is of one.
+fn put_row<K: Store>(
+    writer: &mut DataWriter,
+    clustering: &[u8],
+    value: &[u8],
+    store: &mut K,
+) -> Result<(), PackError>
+    requires clustering { length clustering.now ≤ 1024 }
+    requires value { length value.now < 2 ^ 16 }
+    requires place { writer.old.position < 2 ^ 60 }
+    ensures position { OnOk result (writer.new.position ≡ writer.old.position + length (written_row clustering.now value.now)) }
+    ensures file { writer.new.file ≡ writer.old.file }
+    ensures written { Puts (K.files store.old) (K.files store.new) writer.old.file result
+        (writer.old.pending ++ written_row clustering.now value.now) writer.new.pending }
+    ensures later { K.faults store.old ≤ K.faults store.new }
+    ensures fault { result ≡ Err PackError.StoreFault → Rose (K.faults store.old) (K.faults store.new) }
+{
+    if !clustering.is_empty() {
+        writer.row(clustering, value, store)?;
+    }
+    Ok(())
+}
+
+/// How many partitions begin with an entry of this one.
 fn begun_at(last: Option<&[u8]>, partition: &[u8]) -> u64
     ensures { result ≡ begun_at (option_copied last.entry) partition.now }
 {
     u64::from(begins(last, partition))
 }
 
-/// Writes the rows, in their order, to a data file of which nothing is there. Answers how many partitions they have.
-fn write_rows<K: Store>(alloc: Global, rows: &Rows, store: &mut K) -> Result<u64, PackError>
-    requires entries { AreEntries rows.now.entries }
+/// Writes the entries, in their order, to a data file of which nothing is there. Answers how many partitions and rows they are.
+fn write_entries<K: Store>(
+    alloc: Global,
+    schema: &Schema,
+    rows: &Rows,
+    store: &mut K,
+) -> Result<Counts, PackError>
+    requires entries { AreEntries (columns_of schema.now) rows.now.entries }
     requires count { length rows.now.entries ≤ 1000000 }
-    ensures partitions { IfOk result (λ count. count ≡ length (grouped rows.now.entries)) }
-    ensures written { Finishes (K.files store.old) (K.files store.new) data_id result (data_bytes None (grouped rows.now.entries)) }
+    ensures partitions { IfOk result (λ counts. counts.partitions ≡ length (grouped (columns_of schema.now) rows.now.entries)) }
+    ensures rows { IfOk result (λ counts. counts.rows ≡ row_count (columns_of schema.now) rows.now.entries) }
+    ensures written { Finishes (K.files store.old) (K.files store.new) data_id result
+        (data_bytes schema.now.static_value (grouped (columns_of schema.now) rows.now.entries)) }
     ensures later { K.faults store.old ≤ K.faults store.new }
     ensures fault { result ≡ Err PackError.StoreFault → Rose (K.faults store.old) (K.faults store.new) }
 {
     let mut writer = DataWriter::new(alloc, DATA);
+    let mut counts = Counts {
+        partitions: 0,
+        rows: 0,
+    };
     let mut last: Option<&[u8]> = None;
-    let mut partitions = 0u64;
-    'rows: for (key, value) in rows {
-        let (partition, clustering) = split_row(key.as_slice());
-        partitions += begun_at(last, partition);
-        turn_to(&mut writer, last, partition, store)?;
-        writer.row(clustering, value.as_slice(), store)?;
+    'entries: for (key, value) in rows {
+        let (partition, clustering) = part(schema, key.as_slice());
+        let value = value.as_slice();
+        counts.partitions += begun_at(last, partition);
+        counts.rows += row_at(clustering);
+        let fixed = fixed_by(clustering, value);
+        turn_to(&mut writer, schema, last, partition, fixed, store)?;
+        put_row(&mut writer, clustering, value, store)?;
         last = Some(partition);
     }
     end_partition(&mut writer, last, store)?;
     writer.finish(store)?;
-    Ok(partitions)
+    Ok(counts)
 }
 
-/// Writes the data of the rows, and last the schema. Answers how many partitions they have.
-pub fn flush<K: Store>(alloc: Global, rows: &Rows, store: &mut K) -> Result<u64, PackError>
-    requires entries { AreEntries rows.now.entries }
+/// Writes the data of the entries, and last the schema. Answers how many partitions and rows they are.
+pub fn flush<K: Store>(
+    alloc: Global,
+    schema: &Schema,
+    rows: &Rows,
+    store: &mut K,
+) -> Result<Counts, PackError>
+    requires entries { AreEntries (columns_of schema.now) rows.now.entries }
     requires count { length rows.now.entries ≤ 1000000 }
-    ensures partitions { IfOk result (λ count. count ≡ length (grouped rows.now.entries)) }
-    ensures written { Flushes (K.files store.old) (K.files store.new) result (data_bytes None (grouped rows.now.entries)) }
+    ensures partitions { IfOk result (λ counts. counts.partitions ≡ length (grouped (columns_of schema.now) rows.now.entries)) }
+    ensures rows { IfOk result (λ counts. counts.rows ≡ row_count (columns_of schema.now) rows.now.entries) }
+    ensures written { Flushes (columns_of schema.now) (K.files store.old) (K.files store.new) result
+        (data_bytes schema.now.static_value (grouped (columns_of schema.now) rows.now.entries)) }
     ensures later { K.faults store.old ≤ K.faults store.new }
     ensures fault { result ≡ Err PackError.StoreFault → Rose (K.faults store.old) (K.faults store.new) }
 {
-    let partitions = write_rows(alloc, rows, store)?;
-    store.append(SCHEMA, SCHEMA_TEXT)?;
-    Ok(partitions)
+    let text = schema_text(alloc, schema)?;
+    let counts = write_entries(alloc, schema, rows, store)?;
+    store.append(SCHEMA, text.as_slice())?;
+    Ok(counts)
 }

@@ -3,23 +3,23 @@ ghost use Rattle.std.specs.Prelude.{◌≡◌, ◌≤◌, length, IfOk, IfErr, I
 ghost use Rattle.outside.specs.Causes.{Rose};
 ghost use Rattle.outside.specs.Told.{WhereTold};
 ghost use Rattle.script_text.specs.Script.{script_of, puts_of};
-ghost use Rattle.table_tool.specs.First.{first_columns};
+ghost use Rattle.key_types.specs.Columns.{columns_of};
 ghost use Rattle.table_tool.specs.Listing.{EndsEarly};
 ghost use Rattle.table_tool.specs.Outcome.{Refuses};
+ghost use Rattle.table_tool.specs.Standing.{AreColumns};
 ghost use Rattle.table_tool.specs.Loading.{ok_line, one_there, loading, Changes, Loaded, LoadEnds, Loads, IsExists, IsSpelled, LeavesStore, NoneThere, StopsLoad, Takes};
 
 use crate::files::one_there;
 use crate::flush::flush;
 use crate::input::{InputError, read_all};
-use crate::list::first_script;
 use crate::numbers::put_number;
 use crate::saying::{print, refuse};
 use crate::status::Status;
 use crate::table::rows_put;
 use bti_nodes::PackError;
-use key_types::{ByteList, NoMemory};
+use key_types::{ByteList, NoMemory, Schema};
 use outside::{Failed, Sink, Source, Store};
-use script_text::{Script, ScriptError};
+use script_text::{Script, ScriptError, read_script};
 use std::alloc::Global;
 
 /// The line of so many puts, rows and partitions.
@@ -35,15 +35,15 @@ fn ok_line(alloc: Global, puts: u64, rows: u64, partitions: u64) -> Result<ByteL
 }
 
 /// The script of the source.
-fn take_script<S: Source>(alloc: Global, source: &mut S) -> Result<Script, Status>
-    ensures told { IfSome (S.left source.old) (λ bytes. Takes result (script_of first_columns bytes)) }
-    ensures spelled { IfOk result IsSpelled }
+fn take_script<S: Source>(alloc: Global, schema: &Schema, source: &mut S) -> Result<Script, Status>
+    ensures told { IfSome (S.left source.old) (λ bytes. Takes result (script_of (columns_of schema.now) bytes)) }
+    ensures spelled { IfOk result (IsSpelled (columns_of schema.now)) }
     ensures early { IfErr result EndsEarly }
     ensures later { S.faults source.old ≤ S.faults source.new }
     ensures fault { result ≡ Err Status.SourceFault → Rose (S.faults source.old) (S.faults source.new) }
 {
     match read_all(alloc, source) {
-        Ok(bytes) => match first_script(alloc, bytes.as_slice()) {
+        Ok(bytes) => match read_script(alloc, schema, 1, bytes.as_slice()) {
             Ok(script) => Ok(script),
             Err(ScriptError::BadLine(line, cause)) => Err(Status::BadLine(line, cause)),
             Err(ScriptError::TooLarge) => Err(Status::TooLarge),
@@ -58,44 +58,48 @@ fn take_script<S: Source>(alloc: Global, source: &mut S) -> Result<Script, Statu
 /// Writes the files of the script's puts, and gives their line.
 fn load_script<K: Store>(
     alloc: Global,
+    schema: &Schema,
     script: Script,
     store: &mut K,
 ) -> Result<ByteList, PackError>
-    requires spelled { IsSpelled script }
+    requires columns { AreColumns (columns_of schema.now) }
+    requires spelled { IsSpelled (columns_of schema.now) script }
     requires none { NoneThere (K.files store.old) }
-    ensures loaded { IfOk result (Loaded (puts_of script.batches) (K.files store.old) (K.files store.new)) }
-    ensures changes { WhereTold (K.files store.old) (K.files store.new) (Changes (Ok (puts_of script.batches))) }
+    ensures loaded { IfOk result (Loaded (columns_of schema.now) (puts_of script.batches) (K.files store.old) (K.files store.new)) }
+    ensures changes { WhereTold (K.files store.old) (K.files store.new) (Changes (columns_of schema.now) (Ok (puts_of script.batches))) }
     ensures later { K.faults store.old ≤ K.faults store.new }
     ensures fault { result ≡ Err PackError.StoreFault → Rose (K.faults store.old) (K.faults store.new) }
 {
     let puts = script.puts;
     let rows = rows_put(alloc, script.batches)?;
-    let partitions = flush(alloc, &rows, store)?;
-    Ok(ok_line(alloc, puts, rows.len() as u64, partitions)?)
+    let counts = flush(alloc, schema, &rows, store)?;
+    Ok(ok_line(alloc, puts, counts.rows, counts.partitions)?)
 }
 
 /// Writes the files of the puts of the source's script where none of the table's files is there, and gives their line.
 fn load_source<S: Source, K: Store>(
     alloc: Global,
+    schema: &Schema,
     source: &mut S,
     store: &mut K,
 ) -> Result<ByteList, Status>
+    requires columns { AreColumns (columns_of schema.now) }
     requires none { NoneThere (K.files store.old) }
-    ensures loads { IfSome (S.left source.old) (λ bytes. Loads result (loading bytes) (K.files store.old) (K.files store.new)) }
+    ensures loads { IfSome (S.left source.old) (λ bytes. Loads (columns_of schema.now) result (loading (columns_of schema.now) bytes) (K.files store.old) (K.files store.new)) }
     ensures stops { IfErr result StopsLoad }
     ensures not_exists { ¬ (result ≡ Err Status.Exists) }
     ensures kept { IfErr result (λ status. LeavesStore status (K.files store.old) (K.files store.new)) }
-    ensures changes { IfSome (S.left source.old) (λ bytes. WhereTold (K.files store.old) (K.files store.new) (Changes (loading bytes))) }
+    ensures changes { IfSome (S.left source.old) (λ bytes. WhereTold (K.files store.old) (K.files store.new) (Changes (columns_of schema.now) (loading (columns_of schema.now) bytes))) }
     ensures later { S.faults source.old ≤ S.faults source.new }
     ensures store_later { K.faults store.old ≤ K.faults store.new }
     ensures fault { result ≡ Err Status.SourceFault → Rose (S.faults source.old) (S.faults source.new) }
     ensures store_fault { result ≡ Err Status.StoreFault → Rose (K.faults store.old) (K.faults store.new) }
 {
-    let script = match take_script(alloc, source) {
+    let script = match take_script(alloc, schema, source) {
         Ok(script) => script,
         Err(status) => return Err(status),
     };
-    match load_script(alloc, script, store) {
+    match load_script(alloc, schema, script, store) {
         Ok(line) => Ok(line),
         Err(PackError::StoreFault) => Err(Status::StoreFault),
         Err(PackError::NoMemory) => Err(Status::NoMemory),
@@ -105,22 +109,24 @@ fn load_source<S: Source, K: Store>(
 /// The same, where no file is there, and else Exists.
 fn load_once<S: Source, K: Store>(
     alloc: Global,
+    schema: &Schema,
     source: &mut S,
     store: &mut K,
 ) -> Result<ByteList, Status>
+    requires columns { AreColumns (columns_of schema.now) }
     ensures exists_only { IfSome (K.files store.old) (λ old. result ≡ Err Status.Exists → IsTrue (one_there old)) }
     ensures exists { IfSome (K.files store.old) (λ old. IsTrue (one_there old) → MatchResult result (λ _. ⊥) IsExists × (K.files store.new ≡ K.files store.old)) }
-    ensures loads { IfSome (S.left source.old) (λ bytes. Loads result (loading bytes) (K.files store.old) (K.files store.new)) }
+    ensures loads { IfSome (S.left source.old) (λ bytes. Loads (columns_of schema.now) result (loading (columns_of schema.now) bytes) (K.files store.old) (K.files store.new)) }
     ensures stops { IfErr result StopsLoad }
     ensures kept { IfErr result (λ status. LeavesStore status (K.files store.old) (K.files store.new)) }
-    ensures changes { IfSome (S.left source.old) (λ bytes. WhereTold (K.files store.old) (K.files store.new) (Changes (loading bytes))) }
+    ensures changes { IfSome (S.left source.old) (λ bytes. WhereTold (K.files store.old) (K.files store.new) (Changes (columns_of schema.now) (loading (columns_of schema.now) bytes))) }
     ensures later { S.faults source.old ≤ S.faults source.new }
     ensures store_later { K.faults store.old ≤ K.faults store.new }
     ensures fault { result ≡ Err Status.SourceFault → Rose (S.faults source.old) (S.faults source.new) }
     ensures store_fault { result ≡ Err Status.StoreFault → Rose (K.faults store.old) (K.faults store.new) }
 {
     match one_there(store) {
-        Ok(false) => load_source(alloc, source, store),
+        Ok(false) => load_source(alloc, schema, source, store),
         Ok(true) => Err(Status::Exists),
         Err(Failed) => Err(Status::StoreFault),
     }
@@ -129,17 +135,20 @@ fn load_once<S: Source, K: Store>(
 /// Does `load`.
 pub fn load<S: Source, O: Sink, K: Store>(
     alloc: Global,
+    schema: &Schema,
     source: &mut S,
     out: &mut O,
     store: &mut K,
 ) -> Status
-    ensures ends { LoadEnds (S.left source.old) (S.faults source.old) (S.faults source.new)
+    requires columns { AreColumns (columns_of schema.now) }
+    ensures ends { LoadEnds (columns_of schema.now) (S.left source.old) (S.faults source.old) (S.faults source.new)
         (K.files store.old) (K.files store.new) (K.faults store.old) (K.faults store.new)
         (O.written out.old) (O.written out.new) (O.faults out.old) (O.faults out.new) result }
     ensures refuses { WhereTold (O.written out.old) (O.written out.new) (Refuses result (O.faults out.old) (O.faults out.new)) }
     ensures not_usage { ¬ (result ≡ Status.Usage) }
+    ensures not_key { ¬ (result ≡ Status.Key) }
 {
-    match load_once(alloc, source, store) {
+    match load_once(alloc, schema, source, store) {
         Ok(line) => print(out, line.as_slice()),
         Err(Status::NoMemory) => Status::NoMemory,
         Err(status) => refuse(alloc, out, status),

@@ -1,49 +1,113 @@
 //! What the words ask for.
-ghost use Rattle.std.specs.Prelude.{◌≡◌, codes};
-ghost use Rattle.std.specs.Str.{bytes_eq};
-ghost use Rattle.command_line.specs.Said.{Answers};
-ghost use Rattle.table_tool.specs.Request.{for_schema, request_of};
+ghost use Rattle.std.specs.Prelude.{◌≡◌};
+ghost use Rattle.std.specs.String.{string_bytes};
+ghost use Rattle.key_types.specs.Columns.{columns_of};
+ghost use Rattle.command_line.specs.Said.{way_of};
+ghost use Rattle.key_tool.specs.Shown.{kinds_in};
+ghost use Rattle.table_tool.specs.Request.{Asks, ReadsKey, ReadsSchema, part_kinds, said_way, words_error};
 
-use command_line::{Command, WordsError, read_words};
+use command_line::{Command, KeyArguments, WordsError, read_words};
+use key_tool::{KeyPart, KeyWay};
+use key_types::Schema;
+use schema_text::{SchemaError, read_schema};
 use std::alloc::Global;
 
+/// What `key` is asked for.
+#[derive(Drop)]
+pub struct KeyRequest {
+    pub schema: Schema,
+    pub part: KeyPart,
+    pub way: KeyWay,
+    /// The list or the string, as its text.
+    pub text: String,
+}
+
 /// A command whose texts are accepted.
-#[derive(Clone, Copy, Debug, PartialEq, Eq)]
+#[derive(Drop)]
 pub enum Request {
-    /// Print the rows of a script of the schema `(int; ; text)`.
-    List,
+    /// Print the rows of a script of this schema.
+    List(Schema),
     /// Write the files of such a script's rows.
-    Load,
+    Load(Schema),
     /// Print the rows of the files.
     Scan,
+    /// Print the string of components, or the components of a string.
+    Key(KeyRequest),
 }
 
-/// Whether the text is that of the one schema of today.
-fn is_first_schema(text: &str) -> bool
-    ensures { result ≡ bytes_eq text.now (codes "(int; ; text)") }
+/// A text that is refused as a schema is Usage.
+fn words_error(e: SchemaError) -> WordsError
+    ensures { result ≡ words_error e }
 {
-    text == "(int; ; text)"
-}
-
-/// The request, where the schema of its words is accepted.
-fn with_schema(schema: &str, request: Request) -> Result<Request, WordsError>
-    ensures { result ≡ for_schema schema.now request }
-{
-    if is_first_schema(schema) {
-        Ok(request)
-    } else {
-        Err(WordsError::Usage)
+    match e {
+        SchemaError::TooLong(_)
+        | SchemaError::BadText(_)
+        | SchemaError::TooMany
+        | SchemaError::TooDeep => WordsError::Usage,
+        SchemaError::NoMemory => WordsError::NoMemory,
     }
+}
+
+/// The schema of a text in the words, or Usage.
+fn schema_of(alloc: Global, text: &str) -> Result<Schema, WordsError>
+    ensures { ReadsSchema text.now result }
+{
+    match read_schema(alloc, text.as_bytes()) {
+        Ok(schema) => Ok(schema),
+        Err(e) => Err(words_error(e)),
+    }
+}
+
+/// The part of the key that the words name.
+fn part_of(clustering: bool) -> KeyPart
+    ensures { (schema : Schema) → kinds_in result schema ≡ part_kinds clustering (columns_of schema) }
+{
+    if clustering {
+        KeyPart::Clustering
+    } else {
+        KeyPart::Partition
+    }
+}
+
+/// The way that the words name, and its text.
+fn way_and_text(way: command_line::KeyWay) -> (KeyWay, String)
+    ensures { way_of way ≡ said_way result.0 (string_bytes result.1) }
+{
+    match way {
+        command_line::KeyWay::Encode(list) => (KeyWay::Encode, list),
+        command_line::KeyWay::Decode(digits) => (KeyWay::Decode, digits),
+    }
+}
+
+/// What the words of `key` ask for, or Usage.
+fn key_request(alloc: Global, arguments: KeyArguments) -> Result<Request, WordsError>
+    ensures { ReadsKey arguments result }
+{
+    let schema = schema_of(alloc, arguments.schema.as_str())?;
+    let part = part_of(arguments.clustering);
+    let (way, text) = way_and_text(arguments.way);
+    Ok(Request::Key(KeyRequest {
+        schema,
+        part,
+        way,
+        text,
+    }))
 }
 
 /// What the words ask for, or Usage.
 pub fn read_request(alloc: Global, words: &[String]) -> Result<Request, WordsError>
-    ensures { Answers (λ r. r) result (request_of words.now) }
+    ensures { Asks words.now result }
 {
-    match read_words(alloc, words) {
-        Ok(Command::List(arguments)) => with_schema(arguments.schema.as_str(), Request::List),
-        Ok(Command::Load(arguments)) => with_schema(arguments.schema.as_str(), Request::Load),
-        Ok(Command::Scan) => Ok(Request::Scan),
-        Err(e) => Err(e),
+    match read_words(alloc, words)? {
+        Command::List(arguments) => {
+            let schema = schema_of(alloc, arguments.schema.as_str())?;
+            Ok(Request::List(schema))
+        }
+        Command::Load(arguments) => {
+            let schema = schema_of(alloc, arguments.schema.as_str())?;
+            Ok(Request::Load(schema))
+        }
+        Command::Scan => Ok(Request::Scan),
+        Command::Key(arguments) => key_request(alloc, arguments),
     }
 }

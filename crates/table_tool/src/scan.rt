@@ -1,19 +1,19 @@
 //! The command `scan`: the rows of the files.
-ghost use Rattle.std.specs.Prelude.{◌≡◌, ◌↔◌, ◌≤◌, ◌<◌, ◌^◌, ◌++◌, [], length, Option, IfOk, IfSome, IsTrue, Err, OnErr};
+ghost use Rattle.std.specs.Prelude.{◌≡◌, ◌≤◌, ◌<◌, ◌^◌, ◌++◌, [], length, Option, IfOk, IfSome, Err, OnErr};
 ghost use Rattle.outside.specs.Causes.{Rose};
 ghost use Rattle.outside.specs.Files.{Files, bytes_of};
 ghost use Rattle.outside.specs.Told.{WhereTold};
-ghost use Rattle.data_file.specs.Types.{types_of};
+ghost use Rattle.key_types.specs.Columns.{Columns, columns_of};
 ghost use Rattle.table_tool.specs.Outcome.{AppendsPrefix, IsRefusal};
 ghost use Rattle.table_tool.specs.Printed.{count_line};
-ghost use Rattle.table_tool.specs.Scanned.{Holding, IsBounded, IsEither, Prints, Pushed, Scanned, TurnIs};
+ghost use Rattle.table_tool.specs.Scanned.{Holding, IsBounded, IsEither, Prints, Pushed, ReadsSchema, Scanned, TurnIs};
 ghost use Rattle.table_tool.specs.Scanning.{ScanEnds, ScanWrites};
-ghost use Rattle.table_tool.specs.Standing.{data_id, first_types, schema_id, schema_text};
+ghost use Rattle.table_tool.specs.Standing.{IsSchema, data_id, schema_id};
 
-use crate::files::{DATA, SCHEMA, SCHEMA_TEXT};
-use crate::list::first_schema;
+use crate::files::{DATA, SCHEMA};
 use crate::printing::put_count;
 use crate::saying::{print, refuse};
+use crate::schema_file::read_schema_text;
 use crate::status::Status;
 use crate::walk::{Met, Walk};
 use crate::window::ReadError;
@@ -21,6 +21,9 @@ use bti_nodes::Damage;
 use key_types::{ByteList, NoMemory, Schema};
 use outside::{Failed, Sink, Store};
 use std::alloc::Global;
+
+/// The greatest length of Schema.txt is below this.
+const PAGE: usize = 4096;
 
 /// A text is pushed where it has at least so many bytes.
 const BLOCK: usize = 65_536;
@@ -57,17 +60,16 @@ impl Scan {
         schema: &Schema,
         store: &mut K,
     ) -> Result<Turn, ReadError>
-        requires types { types_of schema.now ≡ first_types }
-        requires bounded { IsBounded self.old }
-        ensures turn { IfOk result (TurnIs (K.files store.old) self.old self.new) }
-        ensures bounded { IfOk result (λ turn. turn ≡ Turn.On → IsBounded self.new) }
+        requires bounded { IsBounded (columns_of schema.now) self.old }
+        ensures turn { IfOk result (TurnIs (columns_of schema.now) (K.files store.old) self.old self.new) }
+        ensures bounded { IfOk result (λ turn. turn ≡ Turn.On → IsBounded (columns_of schema.now) self.new) }
         ensures kept { result ≡ Err ReadError.StoreFault → self.new.text ≡ self.old.text }
         ensures files { K.files store.new ≡ K.files store.old }
         ensures later { K.faults store.old ≤ K.faults store.new }
         ensures fault { result ≡ Err ReadError.StoreFault → Rose (K.faults store.old) (K.faults store.new) }
     {
         self.walk.window.fill(alloc, store, DATA)?;
-        match self.walk.step(schema, &mut self.text)? {
+        match self.walk.step(alloc, schema, &mut self.text)? {
             Met::Row => {
                 self.rows += 1;
                 Ok(Turn::On)
@@ -103,10 +105,9 @@ impl Scan {
         out: &mut O,
         store: &mut K,
     ) -> Result<Option<Damage>, ScanError>
-        requires types { types_of schema.now ≡ first_types }
-        requires bounded { IsBounded self.old }
-        requires fresh { Holding (K.files store.old) self.old [] [] }
-        ensures scanned { Scanned (K.files store.old) self.new (O.written out.old) (O.written out.new) result }
+        requires bounded { IsBounded (columns_of schema.now) self.old }
+        requires fresh { Holding (columns_of schema.now) (K.files store.old) self.old [] [] }
+        ensures scanned { Scanned (columns_of schema.now) (K.files store.old) self.new (O.written out.old) (O.written out.new) result }
         ensures files { K.files store.new ≡ K.files store.old }
         ensures store_later { K.faults store.old ≤ K.faults store.new }
         ensures store_fault { result ≡ Err ScanError.StoreFault → Rose (K.faults store.old) (K.faults store.new) }
@@ -158,8 +159,8 @@ impl Scan {
     /// A scan of a file of this length, at its start.
     fn new(alloc: Global, limit: u64) -> Scan
         requires { limit < 2 ^ 62 }
-        ensures bounded { IsBounded result }
-        ensures fresh { (files : Option Files) → IfSome files (λ m. length (bytes_of m data_id) ≡ limit) → Holding files result [] [] }
+        ensures bounded { (columns : Columns) → IsBounded columns result }
+        ensures fresh { (columns : Columns) (files : Option Files) → IfSome files (λ m. length (bytes_of m data_id) ≡ limit) → Holding columns files result [] [] }
     {
         Scan {
             walk: Walk::new(alloc, limit),
@@ -169,16 +170,16 @@ impl Scan {
     }
 }
 
-/// Whether Schema.txt is there and whole.
-fn is_whole<K: Store>(store: &mut K) -> Result<bool, Failed>
-    ensures told { IfSome (K.files store.old) (λ m. IfOk result (λ whole. IsTrue whole ↔ (bytes_of m schema_id ≡ schema_text))) }
+/// The schema of Schema.txt; `None` where it isn't there or isn't whole.
+fn read_schema<K: Store>(alloc: Global, store: &mut K) -> Result<Option<Schema>, ReadError>
+    ensures told { IfSome (K.files store.old) (λ m. IfOk result (ReadsSchema (bytes_of m schema_id))) }
     ensures files { K.files store.new ≡ K.files store.old }
     ensures later { K.faults store.old ≤ K.faults store.new }
-    ensures fault { OnErr result (Rose (K.faults store.old) (K.faults store.new)) }
+    ensures fault { result ≡ Err ReadError.StoreFault → Rose (K.faults store.old) (K.faults store.new) }
 {
-    let mut page = [0u8; 4096];
+    let mut page = [0u8; PAGE];
     let count = store.read(SCHEMA, 0, &mut page)?;
-    Ok(&page[..count] == SCHEMA_TEXT)
+    Ok(read_schema_text(alloc, &page[..count])?)
 }
 
 /// The length of Data.db, 0 where it is not there.
@@ -195,8 +196,14 @@ fn data_length<K: Store>(store: &mut K) -> Result<u64, Failed>
     }
 }
 
-/// Prints the rows of Data.db.
-fn scan_rows<O: Sink, K: Store>(alloc: Global, out: &mut O, store: &mut K) -> Status
+/// Prints the rows and static values of Data.db.
+fn scan_rows<O: Sink, K: Store>(
+    alloc: Global,
+    schema: &Schema,
+    out: &mut O,
+    store: &mut K,
+) -> Status
+    requires schema { IfSome (K.files store.old) (λ m. IsSchema (columns_of schema.now) (bytes_of m schema_id)) }
     ensures rows { Prints (K.files store.old) (O.written out.old) (O.written out.new) (O.faults out.old) (O.faults out.new) result }
     ensures not_unfinished { ¬ (result ≡ Status.Unfinished) }
     ensures files { K.files store.new ≡ K.files store.old }
@@ -208,11 +215,8 @@ fn scan_rows<O: Sink, K: Store>(alloc: Global, out: &mut O, store: &mut K) -> St
     let Ok(limit) = data_length(store) else {
         return refuse(alloc, out, Status::StoreFault);
     };
-    let Ok(schema) = first_schema(alloc) else {
-        return Status::NoMemory;
-    };
     let mut scan = Scan::new(alloc, limit);
-    match scan.turn_all(alloc, &schema, out, store) {
+    match scan.turn_all(alloc, schema, out, store) {
         Ok(None) => scan.end(out),
         Ok(Some(damage)) => scan.end_early(alloc, out, Status::Damaged(damage)),
         Err(ScanError::StoreFault) => scan.end_early(alloc, out, Status::StoreFault),
@@ -227,10 +231,12 @@ pub fn scan_table<O: Sink, K: Store>(alloc: Global, out: &mut O, store: &mut K) 
         (O.written out.old) (O.written out.new) (O.faults out.old) (O.faults out.new) result }
     ensures files { K.files store.new ≡ K.files store.old }
     ensures not_usage { ¬ (result ≡ Status.Usage) }
+    ensures not_key { ¬ (result ≡ Status.Key) }
 {
-    match is_whole(store) {
-        Ok(true) => scan_rows(alloc, out, store),
-        Ok(false) => refuse(alloc, out, Status::Unfinished),
-        Err(Failed) => refuse(alloc, out, Status::StoreFault),
+    match read_schema(alloc, store) {
+        Ok(Some(schema)) => scan_rows(alloc, &schema, out, store),
+        Ok(None) => refuse(alloc, out, Status::Unfinished),
+        Err(ReadError::StoreFault) => refuse(alloc, out, Status::StoreFault),
+        Err(ReadError::NoMemory) => Status::NoMemory,
     }
 }

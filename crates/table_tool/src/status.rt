@@ -10,6 +10,8 @@ pub enum Status {
     Ok,
     /// The words are no command, or a text in them isn't accepted.
     Usage,
+    /// `key` can't show its list or string.
+    Key,
     /// The first line of the script that isn't accepted, counted from 1, and its cause.
     BadLine(u32, LineCause),
     /// The source failed.
@@ -37,6 +39,7 @@ impl Status {
         match self {
             Status::Ok => 0,
             Status::Usage => 1,
+            Status::Key => 1,
             Status::BadLine(_, _) => 2,
             Status::SourceFault => 4,
             Status::SinkFault => 5,

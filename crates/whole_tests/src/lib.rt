@@ -6,4 +6,8 @@ mod rows;
 #[cfg(test)]
 mod running;
 #[cfg(test)]
+mod statics;
+#[cfg(test)]
 mod tables;
+#[cfg(test)]
+mod types;

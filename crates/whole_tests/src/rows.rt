@@ -61,9 +61,10 @@ fn words_are_refused(rt: HostRuntime) -> Result<(), TestFail> {
     for texts in [
         [].as_slice(),
         &["list"],
-        &["list", "--schema", "(int; int; text)"],
+        &["list", "--schema", "(int; ; float)"],
         &["list", "--schema", "(int; ; text)", "--cells", "1024"],
         &["list", "--schema", "(int; ; text)", "help"],
+        &["load", "--schema", "(int; ; text)", "--bounds", "(20) (10)"],
         &["rows", "--schema", "(int; ; text)"],
     ] {
         let (status, sink) = done(

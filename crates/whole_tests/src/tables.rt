@@ -1,24 +1,13 @@
 //! Rows of `load` and `scan`.
-use crate::running::{done_in, feed_of};
+use crate::running::{DATA, SCHEMA, done_in, empty, feed_of, said, store_of};
 use outside::{Fail, FileId, MemStore, Part};
 use std::alloc::{AllocError, Global};
 use std::test::Fail as TestFail;
-use std::thread::Threads;
 use table_tool::Status;
 
 const LOAD: [&str; 3] = ["load", "--schema", "(int; ; text)"];
 
 const SCAN: [&str; 1] = ["scan"];
-
-const DATA: FileId = FileId {
-    generation: 1,
-    part: Part::Data,
-};
-
-const SCHEMA: FileId = FileId {
-    generation: 1,
-    part: Part::Schema,
-};
 
 /// Data.db of `put (1) () = 'a'`.
 const ONE_PUT: &[u8] = &[
@@ -26,40 +15,6 @@ const ONE_PUT: &[u8] = &[
 ];
 
 const SCHEMA_TEXT: &[u8] = b"bti-table 1\n(int; ; text)\nend\n";
-
-/// The status of a run over the store, and what it wrote.
-fn said<R: Threads + Sync>(
-    rt: &R,
-    alloc: Global,
-    texts: &[&str],
-    script: &[u8],
-    store: &mut MemStore,
-) -> Result<(u8, Vec<u8>), AllocError> {
-    let (status, sink) = done_in(
-        rt,
-        alloc,
-        texts,
-        feed_of(alloc, script)?,
-        Vec::new(alloc),
-        store,
-    )?;
-    Ok((status.number(), sink.written().to_vec(alloc)?))
-}
-
-fn empty(alloc: Global) -> MemStore {
-    MemStore::new(alloc, Vec::new(alloc))
-}
-
-/// A store with these two files.
-fn store_of(alloc: Global, data: &[u8], schema: &[u8]) -> Result<MemStore, AllocError> {
-    let mut store = empty(alloc);
-    let set = store.put_file(DATA, data.to_vec(alloc)?);
-    let set_schema = store.put_file(SCHEMA, schema.to_vec(alloc)?);
-    if set.is_err() || set_schema.is_err() {
-        return Err(AllocError);
-    }
-    Ok(store)
-}
 
 #[test]
 fn a_put_is_loaded_and_scanned(rt: HostRuntime) -> Result<(), TestFail> {

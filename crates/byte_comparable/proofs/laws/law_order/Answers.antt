@@ -1,5 +1,5 @@
-use Rattle.byte_comparable.proofs.Kept.{row_kept}
+use Rattle.byte_comparable.proofs.Kept.{keys_kept}
 use Rattle.byte_comparable.proofs.laws.law_order.Goals as goal
 
 pub returns : goal.returns
-returns c = row_kept
+returns c = keys_kept

@@ -1,7 +1,8 @@
-use Rattle.std.proofs.Common.{◌≡◌, ◌+◌, ◌*◌, ◌<◌, ◌≤◌, ◌∙◌, arith, ap, false, inl, inr, length, refl, rules}
+use Rattle.std.proofs.Common.{◌≡◌, ℕ, List, ◌+◌, ◌*◌, ◌<◌, ◌≤◌, ◌∙◌, arith, ap, false, inl, inr, length, refl, rules}
 use Rattle.data_file.proofs.Found.{early_stays, none_held}
 use Rattle.data_file.proofs.reading.read_row.Goals as goal
-use Rattle.data_file.specs.Types.{types_of}
+use Rattle.data_file.specs.Answers.{IsRowOrEnd}
+use Rattle.key_types.specs.Columns.{columns_of}
 
 pub pages-init : goal.pages-init
 pages-init g c =
@@ -18,8 +19,8 @@ pages-init g c =
 
 pub returns-in-Some-clause-row : goal.returns-in-Some-clause-row
 returns-in-Some-clause-row g c =
-    early_stays (g.K.Store.files c.args.store.now) (g.K.Store.files c.pages.store) c.args.file (types_of c.args.schema.now) c.args.at c.pages.held c.as_slice.result.now
-    c.in-Some.found c.pages.invariant.same c.as_slice.ensures c.pages.invariant.front c.in-Some.ensures.told
+    early_stays (g.K.Store.files c.args.store.now) (g.K.Store.files c.pages.store) c.args.file c.args.at c.pages.held c.as_slice.result.now
+    (λ (b : List ℕ). IsRowOrEnd (columns_of c.args.schema.now) b c.args.at c.in-Some.found) c.pages.invariant.same c.as_slice.ensures c.pages.invariant.front c.in-Some.ensures.told
 
 pub pages-preserved : goal.pages-preserved
 pages-preserved g c =

@@ -6,8 +6,8 @@ use Rattle.key_decode.specs.Reading.{seen}
 use Rattle.key_decode.proofs.Flipped.{low_ok, low_stops, is_low}
 use Rattle.key_decode.proofs.numbers.read_big.Goals as goal
 
-pub returns-in-Ok : goal.returns-in-Ok
-returns-in-Ok c =
+pub returns-in-Ok-clause-gives : goal.returns-in-Ok-clause-gives
+returns-in-Ok-clause-gives c =
     let n = c.in-Ok.number in
     let t = c.args.turned in
     let rest = c.in-Ok.rest.now in
@@ -16,7 +16,7 @@ returns-in-Ok c =
     low_ok t c.flipped.result c.flipped.ensures c.args.bytes.now c.in_ok-first.first (seen t c.in_ok-first.field-0-1.now) c.in_ok-first.ensures.ok (is_low c.in_ok-first.first (omega arith)) n rest c.in-Ok.ensures.gives
     ∙ ap (λ (x : ℤ). Ok (number x, seen t rest)) (sym same)
 
-pub returns-in-Err : goal.returns-in-Err
-returns-in-Err c =
+pub returns-in-Err-clause-gives : goal.returns-in-Err-clause-gives
+returns-in-Err-clause-gives c =
     let t = c.args.turned in
     low_stops t c.flipped.result c.flipped.ensures c.args.bytes.now c.in_ok-first.first (seen t c.in_ok-first.field-0-1.now) c.in_ok-first.ensures.ok (is_low c.in_ok-first.first (omega arith)) c.in-Err.stop c.in-Err.ensures.gives

@@ -22,8 +22,8 @@ overflow_sub-result c =
     let small : c.in_ok-number.number < 2 ^ 32 = omega (arith, c.in_ok-number.ensures.below) in
     omega (arith, ints)
 
-pub returns : goal.returns
-returns c =
+pub returns-clause-gives : goal.returns-clause-gives
+returns-clause-gives c =
     let p = four_bytes c.args.count c.requires in
     let n = c.in_ok-number.number in
     let small : n < 2 ^ 32 = omega (arith, c.in_ok-number.ensures.below) in

@@ -1,5 +1,5 @@
 use Rattle.std.proofs.Common.{sym, ◌∙◌, ap, subst}
-use Rattle.schema_text.specs.Columns.{columns_of}
+use Rattle.key_types.specs.Columns.{columns_of}
 use Rattle.schema_text.specs.Canonical.{canonical}
 use Rattle.schema_text.specs.Grammar.{IsSchemaText}
 use Rattle.schema_text.proofs.Unique.{apart, one, written}

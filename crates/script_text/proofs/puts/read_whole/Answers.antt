@@ -1,5 +1,5 @@
 use Rattle.std.proofs.Common.{sym, ◌∙◌, ap, None}
-use Rattle.schema_text.specs.Columns.{columns_of}
+use Rattle.key_types.specs.Columns.{columns_of}
 use Rattle.script_text.specs.Parts.{put_in}
 use Rattle.script_text.specs.Reading.{put_at}
 use Rattle.script_text.proofs.Steps.{whole_left}

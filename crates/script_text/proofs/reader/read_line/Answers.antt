@@ -1,4 +1,4 @@
-use Rattle.schema_text.specs.Columns.{columns_of}
+use Rattle.key_types.specs.Columns.{columns_of}
 use Rattle.script_text.specs.Parts.{put_in}
 use Rattle.script_text.proofs.Told.{outside, left_within, put_said_fits}
 use Rattle.script_text.proofs.reader.read_line.Goals as goal

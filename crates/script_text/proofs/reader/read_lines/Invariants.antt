@@ -1,5 +1,5 @@
 use Rattle.std.proofs.Common.{◌≡◌, ◌+◌, length}
-use Rattle.schema_text.specs.Columns.{columns_of}
+use Rattle.key_types.specs.Columns.{columns_of}
 use Rattle.script_text.specs.Lines.{lines_of}
 use Rattle.script_text.specs.Script.{puts_from}
 use Rattle.script_text.proofs.Listed.{behind_puts}

@@ -1,6 +1,6 @@
 use Rattle.std.proofs.Common.{◌≡◌, true}
 use Rattle.std.specs.Str.{is_utf8}
-use Rattle.schema_text.specs.Columns.{columns_of}
+use Rattle.key_types.specs.Columns.{columns_of}
 use Rattle.script_text.specs.Parts.{put_in}
 use Rattle.script_text.proofs.Steps.{refused, rejected}
 use Rattle.script_text.proofs.reader.read_put.Goals as goal

@@ -1,25 +1,59 @@
-use Rattle.std.proofs.Common.{◌∙◌, ◌++◌, [], refl, ap, sym, subst, List, ℕ, arith, length, eqb-true, rules}
+use Rattle.std.proofs.Common.{◌≡◌, ◌∙◌, ◌+◌, refl, true, Some, ap, sym, subst, List, ℕ, arith, length, drop, eqb-true, rules}
 use Rattle.std.proofs.lemmas.Bool.{eqb-false}
 use Rattle.std.proofs.lemmas.List.{nil_from_length}
-use Rattle.bti_nodes.specs.declared.damage.Cause.TheVariants.{BadHead}
+use Rattle.std.specs.Option.{option_copied}
+use Rattle.bti_nodes.specs.declared.damage.Cause.TheVariants.{BadHead, BadRow}
 use Rattle.data_file.specs.Answers.{damage_at}
-use Rattle.data_file.specs.Reading.{NoHead}
-use Rattle.data_file.specs.Types.{types_of}
+use Rattle.data_file.specs.Listing.{head_bytes}
+use Rattle.data_file.specs.Reading.{BeginsHead, NoHead}
+use Rattle.key_types.specs.Columns.{columns_of}
 use Rattle.table_tool.specs.declared.walk.Met.TheVariants.{Damaged}
-use Rattle.table_tool.proofs.StepLemmas.{halts_end, halts_head, is_outside, moves_head, room_there}
+use Rattle.table_tool.specs.Standing.{fixed_entries}
+use Rattle.table_tool.specs.Steps.{IsFixedBehind, NoFixedBehind, inside_of}
+use Rattle.table_tool.proofs.StepLemmas.{Moving, halts_end, halts_fixed, halts_head, is_outside, moves_head, prints_fixed, room_there}
 use Rattle.table_tool.proofs.walk.Walk.enter.Goals as goal
 
 pub returns-then-is_empty-clause-step : goal.returns-then-is_empty-clause-step
-returns-then-is_empty-clause-step c = (refl, halts_end c.args.self.now c.requires.outside c.requires.full (sym c.unread-bytes.ensures.bytes ∙ nil_from_length c.unread-bytes.result.now (eqb-true (length c.unread-bytes.result.now) 0 (sym c.is_empty.ensures ∙ c.if-is_empty.true))))
+returns-then-is_empty-clause-step c = (
+  refl,
+  halts_end (columns_of c.args.schema.now) c.args.self.now c.requires.outside c.requires.full
+      (sym c.unread-bytes.ensures.bytes ∙ nil_from_length c.unread-bytes.result.now (eqb-true (length c.unread-bytes.result.now) 0 (sym c.is_empty.ensures ∙ c.if-is_empty.true))),
+)
 
 pub returns-in_default-clause-step : goal.returns-in_default-clause-step
 returns-in_default-clause-step c =
-    halts_head _ c.args.self.now _ [] c.damaged.result c.requires.types c.requires.outside c.requires.full (λ none. eqb-false (length c.unread-bytes.result.now) 0 (sym c.is_empty.ensures ∙ c.if-is_empty.false) (ap length (c.unread-bytes.ensures.bytes ∙ none)))
-    (subst (λ (b : List ℕ). NoHead (types_of c.args.schema.now) b) c.unread-bytes.ensures.bytes (c.head_in.ensures.none (search rules))) (c.damaged.ensures ∙ ap (λ at. Damaged (damage_at at BadHead)) c.at.ensures)
+    let columns = columns_of c.args.schema.now in
+    halts_head columns c.args.self.now _ c.args.out.now c.damaged.result c.requires.outside c.requires.full
+    (λ empty. eqb-false (length c.unread-bytes.result.now) 0 (sym c.is_empty.ensures ∙ c.if-is_empty.false) (ap length (c.unread-bytes.ensures.bytes ∙ empty)))
+    (subst (λ (b : List ℕ). NoHead columns b) c.unread-bytes.ensures.bytes (c.head_in.ensures.none (search rules))) (c.damaged.ensures ∙ ap (λ at. Damaged (damage_at at BadHead)) c.at.ensures)
+
+pub returns-in_default-fixed_behind-clause-step : goal.returns-in_default-fixed_behind-clause-step
+returns-in_default-fixed_behind-clause-step c =
+    let columns = columns_of c.args.schema.now in
+    let head = 2 + length c.in-Some.key.now in
+    let begins : BeginsHead columns c.unread-bytes.result.now c.in-Some.key.now = search rules in
+    let no_part : NoFixedBehind columns (drop head c.unread-bytes.result.now) = c.fixed_behind.ensures.none (search rules) in
+    halts_fixed columns c.args.self.now _ c.args.out.now c.in-Some.key.now c.damaged-in_default-fixed_behind.result head c.requires.outside c.requires.full
+    (subst (λ (b : List ℕ). BeginsHead columns b c.in-Some.key.now) c.unread-bytes.ensures.bytes begins) (omega arith)
+    (subst (λ (b : List ℕ). NoFixedBehind columns (drop head b)) c.unread-bytes.ensures.bytes no_part)
+    (c.damaged-in_default-fixed_behind.ensures ∙ ap (λ (at : ℕ). Damaged (damage_at (at + head) BadRow)) c.at-in_default-fixed_behind.ensures)
 
 pub returns-clause-step : goal.returns-clause-step
-returns-clause-step c = (
-  refl,
-  moves_head _ c.args.self.now.window c.pass.new.self _ _ c.in-Some.key.now c.extend.new.self (room_there c.args.self.now.window _ c.unread-bytes.ensures.bytes c.unread-bytes.ensures.inside) c.requires.types (is_outside c.args.self.now c.requires.outside)
-      c.pass.ensures (omega arith) (search rules) (c.in_ok-extend.ensures.ok ∙ ap (λ b. b ++ c.in-Some.key.now) c.truncate.ensures),
-)
+returns-clause-step c =
+    let columns = columns_of c.args.schema.now in
+    let walk = c.args.self.now in
+    let key = c.in-Some.key.now in
+    let head : ℕ = 2 + length key in
+    let fixed = option_copied c.in-Some-fixed_behind.fixed in
+    let count = c.in-Some-fixed_behind.length in
+    let begins : BeginsHead columns c.unread-bytes.result.now key = search rules in
+    let part : IsFixedBehind columns (drop head c.unread-bytes.result.now) fixed count = search rules in
+    let long : head ≡ length (head_bytes key) = omega arith in
+    let moves = moves_head columns walk.window c.pass.new.self (head + count) (inside_of columns walk) key fixed count
+    (room_there walk.window _ c.unread-bytes.ensures.bytes c.unread-bytes.ensures.inside) (is_outside columns walk c.requires.outside) c.pass.ensures (omega arith)
+    (subst (λ (b : List ℕ). BeginsHead columns b key) c.unread-bytes.ensures.bytes begins)
+    (subst (λ (b : List ℕ). IsFixedBehind columns (drop (length (head_bytes key)) b) fixed count) c.unread-bytes.ensures.bytes
+    (subst (λ (n : ℕ). IsFixedBehind columns (drop n c.unread-bytes.result.now) fixed count) long part)) in
+    prints_fixed columns walk (record { window = c.pass.new.self; partition = c.in_ok-partition.partition; inside = true }) c.args.out.now c.put_fixed.new.out fixed c.in_ok-partition.ensures.fits
+    c.in_ok-put_fixed.ensures
+    (subst (λ (k : List ℕ). Moving columns walk.window c.pass.new.self (inside_of columns walk) (Some k) (fixed_entries k fixed)) c.in_ok-partition.ensures.string moves)
