@@ -27,8 +27,8 @@ fn put_byte(byte: u8, behind: bool, out: &mut ByteList) -> Result<bool, NoMemory
     Ok(byte == 0)
 }
 
-/// Appends a text or a blob.
-fn put_escaped(bytes: &[u8], out: &mut ByteList) -> Result<(), NoMemory>
+/// Appends the encoding of a text or a blob with these bytes. Without memory a part of it may stand behind what was there.
+pub fn encode_bytes(bytes: &[u8], out: &mut ByteList) -> Result<(), NoMemory>
     ensures ok { OnOk result (out.new ≡ out.old ++ escaped bytes.now) }
     ensures kept { take (length out.old) out.new ≡ out.old }
 {
@@ -134,8 +134,8 @@ fn put_value(kind: &ColType, value: &Value, out: &mut ByteList) -> Result<(), No
         (ColType::SmallInt, Value::Number(n)) => out.extend(&((*n + 0x8000) as u16).to_be_bytes()),
         (ColType::Int, Value::Number(n)) => out.extend(&((*n + 0x8000_0000) as u32).to_be_bytes()),
         (ColType::BigInt, Value::Number(n)) => put_big(*n, out),
-        (ColType::Text, Value::Bytes(bytes)) => put_escaped(bytes.as_slice(), out),
-        (ColType::Blob, Value::Bytes(bytes)) => put_escaped(bytes.as_slice(), out),
+        (ColType::Text, Value::Bytes(bytes)) => encode_bytes(bytes.as_slice(), out),
+        (ColType::Blob, Value::Bytes(bytes)) => encode_bytes(bytes.as_slice(), out),
         (ColType::Boolean, Value::Truth(truth)) => out.push(u8::from(*truth)),
         (ColType::Tuple(kinds), Value::Tuple(values)) => {
             put_components(kinds, values, out)?;

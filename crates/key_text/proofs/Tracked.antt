@@ -15,13 +15,13 @@ use Rattle.key_text.proofs.Lists.{value_exact}
 
 -- ---- numbers within the bound of a type
 
-abbrev kept_by : Bool → ℤ → Option ℤ
+abbrev pub kept_by : Bool → ℤ → Option ℤ
 kept_by t z = if t then Some z else None
 
 same_test : (a b : Bool) (z : ℤ) → a ≡ b → kept_by a z ≡ kept_by b z
 same_test a b z e = ap (λ t. kept_by t z) e
 
-kept_within : (m : ℕ) (minus : Bool) (n : ℕ) → kept (suc m) minus n ≡ kept_by (within (negsuc m) (pos (suc m)) (signed (minus, n))) (signed (minus, n))
+pub kept_within : (m : ℕ) (minus : Bool) (n : ℕ) → kept (suc m) minus n ≡ kept_by (within (negsuc m) (pos (suc m)) (signed (minus, n))) (signed (minus, n))
 kept_within m false n = same_test (nat_lt n (suc m)) (within (negsuc m) (pos (suc m)) (pos n)) (pos n) (grind (arith, nat_tests))
 kept_within m true zero = same_test (nat_le 0 (suc m)) (within (negsuc m) (pos (suc m)) (pos 0)) (pos 0) (grind (arith, nat_tests))
 kept_within m true (suc n) = same_test (nat_le (suc n) (suc m)) (within (negsuc m) (pos (suc m)) (negsuc n)) (negsuc n) (grind (arith, nat_tests))

@@ -124,6 +124,20 @@ fn read_quoted(alloc: Global, bytes: &[u8]) -> Result<(ByteList, &[u8]), Stop>
     Err(Stop::At(0))
 }
 
+/// A text in quotes in which no quote stands, as it stands; `None` where none is seen.
+pub fn read_plain(bytes: &[u8]) -> Option<(&[u8], &[u8])>
+    ensures { IfSome result (λ x. text_at bytes.now ≡ Ok (x.0.now, x.1.now)) }
+{
+    let [b'\'', rest @ ..] = bytes else {
+        return None;
+    };
+    let (text, after) = split_quote(rest)?;
+    match after {
+        [b'\'', ..] => None,
+        _ => Some((text, after)),
+    }
+}
+
 /// A text in quotes.
 pub fn read_text(alloc: Global, bytes: &[u8]) -> Result<(ByteList, &[u8]), Stop>
     ensures { Gives (λ x. (x.0, x.1.now)) result (text_at bytes.now) }

@@ -1,10 +1,12 @@
-ghost use Rattle.std.specs.Prelude.{◌≡◌, ◌≤◌, ℕ, ◌^◌, Option, Some, None};
+ghost use Rattle.std.specs.Prelude.{◌≡◌, ◌≤◌, ℕ, ◌^◌, Option, Some, None, Ok, IfSome};
 ghost use Rattle.grammar.specs.Code.{Gives};
 ghost use Rattle.key_types.specs.Kinds.{kind_of, kinds_of, value_of, values_of};
 ghost use Rattle.key_text.specs.Marking.{kept, first_of, marked_number_at, marked_at, marked_all, marked_rest, marked_list};
 ghost use Rattle.key_text.specs.Reading.{closed, text_at, blob_at};
 
-use crate::tokens::{list_ends, read_blob, read_closing, read_number, read_text, read_truth};
+use crate::tokens::{
+    list_ends, read_blob, read_closing, read_number, read_plain, read_text, read_truth,
+};
 use grammar::{Stop, read_sign};
 use key_types::{ByteList, ColType, TypeList, Value, ValueList};
 use std::alloc::Global;
@@ -58,8 +60,19 @@ fn read_within<'a>(
     }
 }
 
+/// A text in which no quote stands, as it stands, up to the end of a value; `None` where none is seen. It takes no memory.
+pub fn plain_text(bytes: &[u8]) -> Option<(&[u8], &[u8])>
+    ensures { IfSome result (λ x. closed text_at bytes.now ≡ Ok (x.0.now, x.1.now)) }
+{
+    let (text, rest) = read_plain(bytes)?;
+    match read_closing(rest) {
+        Ok(rest) => Some((text, rest)),
+        Err(_) => None,
+    }
+}
+
 /// A text, up to the end of a value.
-fn read_closed_text(alloc: Global, bytes: &[u8]) -> Result<(ByteList, &[u8]), Stop>
+pub fn read_closed_text(alloc: Global, bytes: &[u8]) -> Result<(ByteList, &[u8]), Stop>
     ensures { Gives (λ x. (x.0, x.1.now)) result (closed text_at bytes.now) }
 {
     let (text, rest) = read_text(alloc, bytes)?;
@@ -68,7 +81,7 @@ fn read_closed_text(alloc: Global, bytes: &[u8]) -> Result<(ByteList, &[u8]), St
 }
 
 /// A blob, up to the end of a value.
-fn read_closed_blob(alloc: Global, bytes: &[u8]) -> Result<(ByteList, &[u8]), Stop>
+pub fn read_closed_blob(alloc: Global, bytes: &[u8]) -> Result<(ByteList, &[u8]), Stop>
     ensures { Gives (λ x. (x.0, x.1.now)) result (closed blob_at bytes.now) }
 {
     let (blob, rest) = read_blob(alloc, bytes)?;

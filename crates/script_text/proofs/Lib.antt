@@ -1,7 +1,7 @@
 pub mod Breaks
 pub mod Listed
 pub mod Octets
-pub mod Strings
+pub mod Spelled
 pub mod Paired
 pub mod PutLines
 pub mod Told

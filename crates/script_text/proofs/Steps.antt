@@ -1,8 +1,9 @@
 -- What comes of a line of UTF-8 is what comes of what it says.
-use Rattle.std.proofs.Common.{◌≡◌, ◌≤◌, ℕ, true, List, [], ◌∷◌, length, arith, Option, Some, None, Result, Ok, Err, sym, ◌∙◌, ap}
+use Rattle.std.proofs.Common.{◌≡◌, ◌≤◌, ℕ, true, List, [], ◌∷◌, length, arith, Option, Some, None, Result, Ok, Err, refl, sym, ◌∙◌, ap}
 use Rattle.std.specs.Prelude.{if◌then◌else◌}
 use Rattle.std.specs.Str.{is_utf8}
 use Rattle.key_types.specs.Columns.{Columns}
+use Rattle.key_types.specs.Kinds.{Vals}
 use Rattle.script_text.specs.declared.script.Put.{Put}
 use Rattle.script_text.specs.declared.script.LineCause.{LineCause}
 use Rattle.script_text.specs.declared.script.LineCause.TheVariants.{NotUtf8}
@@ -12,13 +13,33 @@ use Rattle.script_text.specs.Grammar.{PutText}
 use Rattle.grammar.specs.Reading.{without_spaces, all_of}
 use Rattle.key_text.specs.Marking.{Marked}
 use Rattle.script_text.specs.Reading.{line_of, put_at, whole_put}
-use Rattle.script_text.specs.Parts.{said_in, Sees}
-use Rattle.script_text.specs.Script.{◌>>=◌, put_of, some_put, put_on, at_line, Answers}
+use Rattle.script_text.specs.declared.puts.PutLine.{PutLine}
+use Rattle.script_text.specs.Parts.{IsPutOf, put_with, Sees, short_row, string_within}
+use Rattle.script_text.specs.Script.{◌>>=◌, row_key, bytes_in, short_key, short_value, put_of, some_put, put_on, at_line, Answers}
 
 -- bytes are left behind a put
 pub whole_left : (s : Columns) (line : List ℕ) (x : Marked PutText) (rest : List ℕ) → put_at s None (without_spaces line) ≡ Ok (x, rest) → 1 ≤ length rest → whole_put s line ≡ Err (length rest)
 whole_left s line x [] h l = absurd (omega arith)
 whole_left s line x (b ∷ bs) h l = ap all_of h
+
+-- the put of a string of a partition, what came of that of a row, and a value
+abbrev with_parts : ℕ → List ℕ → Result (List ℕ) LineCause → List ℕ → Result Put LineCause
+with_parts line string row bytes = do
+  partition ← short_key string
+  clustering ← row
+  value ← short_value bytes
+  Ok (record { line = line; partition = partition; clustering = clustering; value = value })
+
+row_same : (s : Columns) (cs : Option Vals) → row_key s.clustering cs ≡ short_row (string_within s cs)
+row_same s None = refl
+row_same s (Some cs) = refl
+
+-- a put is accepted as its strings are
+pub put_same : (s : Columns) (line : ℕ) (p : PutText) (put : PutLine) → IsPutOf s p put → put_of s line p ≡ put_with line put
+put_same s line p put (partition, (clustering, value)) =
+    ap (λ a. with_parts line a (row_key s.clustering p.clustering) (bytes_in p.value)) (sym partition)
+    ∙ ap (λ b. with_parts line put.partition b (bytes_in p.value)) (row_same s p.clustering ∙ ap short_row (sym clustering))
+    ∙ ap (λ v. with_parts line put.partition (short_row put.clustering) (bytes_in v)) value
 
 module _ (s : Columns) (line : ℕ) (text : List ℕ) (utf8 : is_utf8 text ≡ true) where
   is_said : put_on s line text ≡ (line_of s text >>= λ said. some_put s line said)
@@ -33,7 +54,7 @@ module _ (s : Columns) (line : ℕ) (text : List ℕ) (utf8 : is_utf8 text ≡ t
   ok_by (Err cause) said h = cc
 
   -- the line is refused
-  pub refused : (e : ScriptError) → Sees said_in (Err e) (at_line line (line_of s text)) → Answers {X = Option Put} (Err e) (at_line line (put_on s line text))
+  pub refused : (e : ScriptError) → Sees s (Err e) (at_line line (line_of s text)) → Answers {X = Option Put} (Err e) (at_line line (put_on s line text))
   refused NoMemory h = tt
   refused TooLarge h = sym (ap (at_line line) is_said ∙ err_by (line_of s text) TooLarge h)
   refused (BadLine n cause) h = sym (ap (at_line line) is_said ∙ err_by (line_of s text) (BadLine n cause) h)
@@ -54,11 +75,15 @@ module _ (s : Columns) (line : ℕ) (text : List ℕ) (utf8 : is_utf8 text ≡ t
     is_put : at_line line (put_on s line text) ≡ at_line line (put_of s line p >>= λ put. Ok (Some put))
     is_put = ap (at_line line) (is_said ∙ ok_by (line_of s text) (Some p) said)
 
-    -- its put is accepted, or not
-    pub accepted : (put : Put) → Answers (Ok put) (at_line line (put_of s line p)) → Answers (Ok (Some put)) (at_line line (put_on s line text))
-    accepted put h = sym (is_put ∙ some_by (put_of s line p) put (sym h))
+    module _ (read : PutLine) (same : IsPutOf s p read) where
+      of_strings : at_line line (put_of s line p) ≡ at_line line (put_with line read)
+      of_strings = ap (at_line line) (put_same s line p read same)
 
-    pub rejected : (e : ScriptError) → Answers {X = Put} (Err e) (at_line line (put_of s line p)) → Answers {X = Option Put} (Err e) (at_line line (put_on s line text))
-    rejected NoMemory h = tt
-    rejected TooLarge h = sym (is_put ∙ none_by (put_of s line p) TooLarge (sym h))
-    rejected (BadLine n cause) h = sym (is_put ∙ none_by (put_of s line p) (BadLine n cause) (sym h))
+      -- its put is accepted, or not
+      pub accepted : (put : Put) → Answers (Ok put) (at_line line (put_with line read)) → Answers (Ok (Some put)) (at_line line (put_on s line text))
+      accepted put h = sym (is_put ∙ some_by (put_of s line p) put (of_strings ∙ sym h))
+
+      pub rejected : (e : ScriptError) → Answers {X = Put} (Err e) (at_line line (put_with line read)) → Answers {X = Option Put} (Err e) (at_line line (put_on s line text))
+      rejected NoMemory h = tt
+      rejected TooLarge h = sym (is_put ∙ none_by (put_of s line p) TooLarge (of_strings ∙ sym h))
+      rejected (BadLine n cause) h = sym (is_put ∙ none_by (put_of s line p) (BadLine n cause) (of_strings ∙ sym h))

@@ -1,34 +1,63 @@
--- What was read of a line, without pointers: only private contracts cite it.
-use Rattle.std.specs.Prelude.{◌≡◌, Option, None, Some, Result, Ok, Err}
-use Rattle.key_types.specs.declared.kinds.Value.{Value}
-use Rattle.key_types.specs.declared.kinds.ValueList.{ValueList}
-use Rattle.key_types.specs.Kinds.{Vals, value_of, values_of}
+-- What was read of a line, spelled as the strings of its key: only private contracts cite it.
+use Rattle.std.specs.Prelude.{◌≡◌, ℕ, List, [], Option, None, Some, Result, Ok, Err}
+use Rattle.grammar.specs.declared.stop.Stop.{Stop}
+use Rattle.grammar.specs.Code.{Stops}
+use Rattle.key_types.specs.Kinds.{bytes, Val, Vals}
+use Rattle.key_types.specs.Columns.{Columns}
+use Rattle.byte_comparable.specs.Encoding.{key_string}
+use Rattle.key_text.specs.Marking.{Marked}
 use Rattle.script_text.specs.declared.puts.PutLine.{PutLine}
+use Rattle.script_text.specs.declared.script.Put.{Put}
+use Rattle.script_text.specs.declared.script.LineCause.{LineCause}
 use Rattle.script_text.specs.declared.script.ScriptError.{ScriptError}
 use Rattle.script_text.specs.declared.script.ScriptError.TheVariants.{NoMemory}
 use Rattle.script_text.specs.Grammar.{PutText}
 use Rattle.script_text.specs.Reading.{RestText}
+use Rattle.script_text.specs.Script.{◌>>=◌, short_key, short_value}
 
--- components, where there are some
-abbrev pub components_in : Option ValueList → Option Vals
-components_in None = None
-components_in (Some vs) = Some (values_of vs)
+-- a value of these bytes, which marks no more
+abbrev pub value_with : Option ℕ → List ℕ → Marked Val
+value_with mark value = (bytes value, mark)
 
--- what stands behind the components of a partition
-abbrev pub row_in : Option ValueList → Value → RestText
-row_in vs v = (components_in vs, value_of v)
+-- the string within the partition of a row; a static value has none
+abbrev pub string_within : Columns → Option Vals → Option (List ℕ)
+string_within s None = None
+string_within s (Some cs) = Some (key_string s.clustering cs)
 
--- what a line puts
-abbrev pub put_in : PutLine → PutText
-put_in p = record { partition = values_of p.partition; clustering = components_in p.clustering; value = value_of p.value }
+-- the string within the partition and the bytes of the value are those of what stands behind the components of a partition
+abbrev pub IsRestOf : Columns → RestText → Option (List ℕ) → List ℕ → Type 0
+IsRestOf s rest string value = (string ≡ string_within s rest.0) × (rest.1 ≡ bytes value)
 
--- what a line says, where it says something
-abbrev pub said_in : Option PutLine → Option PutText
-said_in None = None
-said_in (Some p) = Some (put_in p)
+-- the strings and the bytes are those of this put
+abbrev pub IsPutOf : Columns → PutText → PutLine → Type 0
+IsPutOf s put line = (line.partition ≡ key_string s.partition put.partition) × IsRestOf s (put.clustering, put.value) line.clustering line.value
 
--- the answer, seen by `view`, is what is expected, unless memory ran out
-abbrev pub Sees : {X Y : Type 0} → (X → Y) → Result X ScriptError → Result Y ScriptError → Type 0
-Sees view (Err NoMemory) expected = Unit {0}
-Sees view (Ok x) expected = expected ≡ Ok (view x)
-Sees view (Err e) expected = expected ≡ Err e
+-- the code read something of which this holds, as the definition reads it, with this mark; or the definition's reading stops there too, or memory ran out
+abbrev pub GivesOne : {A X : Type 0} → (A → X → Type 0) → (X → List ℕ) → Option ℕ → Result X Stop → Result (Marked A × List ℕ) ℕ → Type 0
+GivesOne {A} Of left mark (Ok x) read = (a : A) × (read ≡ Ok ((a, mark), left x)) × Of a x
+GivesOne Of left mark (Err e) read = Stops e read
+
+-- the same of a whole line
+abbrev pub GivesWhole : {A X : Type 0} → (A → X → Type 0) → (X → Option ℕ) → Result X Stop → Result (Marked A) ℕ → Type 0
+GivesWhole {A} Of mark (Ok x) read = (a : A) × (read ≡ Ok (a, mark x)) × Of a x
+GivesWhole Of mark (Err e) read = Stops e read
+
+-- the line says nothing, or a put of which this line has the strings; or it is refused so, or memory ran out
+abbrev pub Sees : Columns → Result (Option PutLine) ScriptError → Result (Option PutText) ScriptError → Type 0
+Sees s (Ok None) said = said ≡ Ok None
+Sees s (Ok (Some line)) said = (put : PutText) × (said ≡ Ok (Some put)) × IsPutOf s put line
+Sees s (Err NoMemory) said = Unit {0}
+Sees s (Err e) said = said ≡ Err e
+
+-- a row's string of at most 1,024 bytes; a static value has the empty one
+abbrev pub short_row : Option (List ℕ) → Result (List ℕ) LineCause
+short_row (Some string) = short_key string
+short_row None = Ok []
+
+-- the put of these strings and this value, or the first of them that is too long
+abbrev pub put_with : ℕ → PutLine → Result Put LineCause
+put_with line p = do
+  partition ← short_key p.partition
+  clustering ← short_row p.clustering
+  value ← short_value p.value
+  Ok (record { line = line; partition = partition; clustering = clustering; value = value })

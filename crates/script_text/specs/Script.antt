@@ -24,9 +24,13 @@ abbrev pub ◌>>=◌ : {A B E : Type 0} → Result A E → (A → Result B E) �
 (Ok x) >>= f = f x
 (Err e) >>= f = Err e
 
--- the string of key values, of at most 1,024 bytes
+-- a string of at most 1,024 bytes
+abbrev pub short_key : List ℕ → Result (List ℕ) LineCause
+short_key string = if nat_lt 1024 (length string) then Err (KeyTooLong (length string)) else Ok string
+
+-- the string of key values
 abbrev pub key_of : Kinds → Vals → Result (List ℕ) LineCause
-key_of ts vs = if nat_lt 1024 (length (key_string ts vs)) then Err (KeyTooLong (length (key_string ts vs))) else Ok (key_string ts vs)
+key_of ts vs = short_key (key_string ts vs)
 
 -- that of a row within its partition; a static value has the empty one
 abbrev pub row_key : Kinds → Option Vals → Result (List ℕ) LineCause

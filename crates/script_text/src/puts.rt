@@ -1,49 +1,64 @@
-//! Lines that put, read from the front of bytes.
-ghost use Rattle.std.specs.Prelude.{◌≡◌, ◌≤◌, ◌-◌, length, None, Ok, IfOk, IfErr};
+//! Lines that put, read from the front of bytes. The strings of their keys are spelled while they are read.
+ghost use Rattle.std.specs.Prelude.{◌≡◌, Option, ℕ};
 ghost use Rattle.grammar.specs.Code.{Gives};
-ghost use Rattle.key_types.specs.Kinds.{kind_of, value_of};
-ghost use Rattle.key_types.specs.Columns.{columns_of};
+ghost use Rattle.key_types.specs.Kinds.{kinds_of};
+ghost use Rattle.key_types.specs.Columns.{Columns, columns_of};
+ghost use Rattle.byte_comparable.specs.Encoding.{key_string};
+ghost use Rattle.key_text.specs.Marking.{marked_at, marked_list};
 ghost use Rattle.script_text.specs.Grammar.{value_kind};
 ghost use Rattle.script_text.specs.Reading.{set_at, row_at, static_at, rest_by, put_at, whole_put};
-ghost use Rattle.script_text.specs.Parts.{put_in, row_in};
+ghost use Rattle.script_text.specs.Parts.{GivesOne, GivesWhole, IsPutOf, IsRestOf, value_with};
 
 use grammar::{Stop, read_sign, read_word, skip_spaces};
-use key_text::{read_marked, read_marked_list};
-use key_types::{ColType, Schema, Value, ValueList, ValueType};
+use key_spelling::spell_list;
+use key_text::{read_closed_blob, read_closed_text};
+use key_types::{KeyBytes, Schema, TypeList, ValueBytes, ValueType};
 use std::alloc::Global;
+
+/// The room, in bytes, that a string is given at first: a partition's and that of a row behind it seldom need more.
+const ROOM: usize = 40;
 
 /// What a line puts.
 #[derive(Drop)]
 pub struct PutLine {
-    /// The components of the partition.
-    pub partition: ValueList,
-    /// The components within the partition; without them the put is of the partition's static value.
-    pub clustering: Option<ValueList>,
-    /// The value, a text or a blob.
-    pub value: Value,
+    /// The string of the partition.
+    pub partition: KeyBytes,
+    /// The string of the row within the partition; without one the put is of the partition's static value.
+    pub clustering: Option<KeyBytes>,
+    /// The bytes of the value, a text or a blob.
+    pub value: ValueBytes,
 }
 
-/// The type of a literal of such values.
-fn column(kind: ValueType) -> ColType
-    ensures { kind_of result ≡ value_kind kind }
+/// The string of components in parentheses.
+fn read_string<'a>(
+    alloc: Global,
+    kinds: &TypeList,
+    outside: &mut Option<usize>,
+    bytes: &'a [u8],
+) -> Result<(KeyBytes, &'a [u8]), Stop>
+    ensures { GivesOne (λ values x. x.0 ≡ key_string (kinds_of kinds.now) values) (λ x. x.1.now) outside.new result (marked_list (kinds_of kinds.now) outside.old bytes.now) }
+{
+    let mut string = KeyBytes::from_vec(Vec::with_capacity(alloc, ROOM)?);
+    let rest = spell_list(alloc, kinds, outside, bytes, &mut string)?;
+    Ok((string, rest))
+}
+
+/// A value of the type.
+fn read_value(alloc: Global, kind: ValueType, bytes: &[u8]) -> Result<(ValueBytes, &[u8]), Stop>
+    ensures { (mark : Option ℕ) → Gives (λ x. (value_with mark x.0, x.1.now)) result (marked_at (value_kind kind) mark bytes.now) }
 {
     match kind {
-        ValueType::Text => ColType::Text,
-        ValueType::Blob => ColType::Blob,
+        ValueType::Text => read_closed_text(alloc, bytes),
+        ValueType::Blob => read_closed_blob(alloc, bytes),
     }
 }
 
 /// An equals sign and a value of the type.
-fn read_set<'a>(
-    alloc: Global,
-    kind: ValueType,
-    outside: &mut Option<usize>,
-    bytes: &'a [u8],
-) -> Result<(Value, &'a [u8]), Stop>
-    ensures { Gives (λ x. ((value_of x.0, outside.new), x.1.now)) result (set_at kind outside.old bytes.now) }
+fn read_set(alloc: Global, kind: ValueType, bytes: &[u8]) -> Result<(ValueBytes, &[u8]), Stop>
+    ensures { (mark : Option ℕ) → Gives (λ x. (value_with mark x.0, x.1.now)) result (set_at kind mark bytes.now) }
 {
     let rest = read_sign(b'=', bytes)?;
-    read_marked(alloc, &column(kind), outside, rest)
+    read_value(alloc, kind, rest)
 }
 
 /// The components of a row, and what it is set to.
@@ -52,25 +67,24 @@ fn read_row<'a>(
     schema: &Schema,
     outside: &mut Option<usize>,
     bytes: &'a [u8],
-) -> Result<(Option<ValueList>, Value, &'a [u8]), Stop>
-    ensures { Gives (λ x. ((row_in x.0 x.1, outside.new), x.2.now)) result (row_at (columns_of schema.now) outside.old bytes.now) }
+) -> Result<(Option<KeyBytes>, ValueBytes, &'a [u8]), Stop>
+    ensures { GivesOne (λ rest x. IsRestOf (columns_of schema.now) rest x.0 x.1) (λ x. x.2.now) outside.new result (row_at (columns_of schema.now) outside.old bytes.now) }
 {
-    let (clustering, rest) = read_marked_list(alloc, &schema.clustering, outside, bytes)?;
-    let (value, rest) = read_set(alloc, schema.value, outside, rest)?;
+    let (clustering, rest) = read_string(alloc, &schema.clustering, outside, bytes)?;
+    let (value, rest) = read_set(alloc, schema.value, rest)?;
     Ok((Some(clustering), value, rest))
 }
 
 /// The word `static`, and what the static value is set to.
-fn read_static<'a>(
+fn read_static(
     alloc: Global,
     kind: ValueType,
-    outside: &mut Option<usize>,
-    bytes: &'a [u8],
-) -> Result<(Option<ValueList>, Value, &'a [u8]), Stop>
-    ensures { Gives (λ x. ((row_in x.0 x.1, outside.new), x.2.now)) result (static_at kind outside.old bytes.now) }
+    bytes: &[u8],
+) -> Result<(Option<KeyBytes>, ValueBytes, &[u8]), Stop>
+    ensures { (columns : Columns) (mark : Option ℕ) → GivesOne (λ rest x. IsRestOf columns rest x.0 x.1) (λ x. x.2.now) mark result (static_at kind mark bytes.now) }
 {
     let (_, rest) = read_word(b"static", bytes)?;
-    let (value, rest) = read_set(alloc, kind, outside, rest)?;
+    let (value, rest) = read_set(alloc, kind, rest)?;
     Ok((None, value, rest))
 }
 
@@ -80,12 +94,12 @@ fn read_rest<'a>(
     schema: &Schema,
     outside: &mut Option<usize>,
     bytes: &'a [u8],
-) -> Result<(Option<ValueList>, Value, &'a [u8]), Stop>
-    ensures { Gives (λ x. ((row_in x.0 x.1, outside.new), x.2.now)) result
+) -> Result<(Option<KeyBytes>, ValueBytes, &'a [u8]), Stop>
+    ensures { GivesOne (λ rest x. IsRestOf (columns_of schema.now) rest x.0 x.1) (λ x. x.2.now) outside.new result
         (rest_by (columns_of schema.now) schema.now.static_value outside.old bytes.now) }
 {
     match (schema.static_value, bytes) {
-        (Some(kind), [byte, ..]) if *byte != b'(' => read_static(alloc, kind, outside, bytes),
+        (Some(kind), [byte, ..]) if *byte != b'(' => read_static(alloc, kind, bytes),
         _ => read_row(alloc, schema, outside, bytes),
     }
 }
@@ -97,10 +111,10 @@ fn read_put<'a>(
     outside: &mut Option<usize>,
     bytes: &'a [u8],
 ) -> Result<(PutLine, &'a [u8]), Stop>
-    ensures { Gives (λ x. ((put_in x.0, outside.new), x.1.now)) result (put_at (columns_of schema.now) outside.old bytes.now) }
+    ensures { GivesOne (λ put x. IsPutOf (columns_of schema.now) put x.0) (λ x. x.1.now) outside.new result (put_at (columns_of schema.now) outside.old bytes.now) }
 {
     let (_, rest) = read_word(b"put", bytes)?;
-    let (partition, rest) = read_marked_list(alloc, &schema.partition, outside, rest)?;
+    let (partition, rest) = read_string(alloc, &schema.partition, outside, rest)?;
     let (clustering, value, rest) = read_rest(alloc, schema, outside, rest)?;
     Ok((
         PutLine {
@@ -118,7 +132,7 @@ pub fn read_whole(
     schema: &Schema,
     line: &[u8],
 ) -> Result<(PutLine, Option<usize>), Stop>
-    ensures { Gives (λ x. (put_in x.0, x.1)) result (whole_put (columns_of schema.now) line.now) }
+    ensures { GivesWhole (λ put x. IsPutOf (columns_of schema.now) put x.0) (λ x. x.1) result (whole_put (columns_of schema.now) line.now) }
 {
     let mut outside = None;
     let (put, rest) = read_put(alloc, schema, &mut outside, skip_spaces(line))?;

@@ -1,25 +1,23 @@
 //! A script, read line by line.
-ghost use Rattle.std.specs.Prelude.{◌≡◌, ◌≤◌, ◌∷◌, ◌++◌, ◌⊎◌, [], length, IfOk, OnOk, IsTrue};
-ghost use Rattle.std.specs.Str.{is_utf8};
-ghost use Rattle.key_types.specs.Kinds.{kinds_of, values_of, value_of, text, blob, Fits, EachFits};
+ghost use Rattle.std.specs.Prelude.{◌≡◌, ◌≤◌, ◌∷◌, ◌++◌, [], length, IfOk, OnOk};
 ghost use Rattle.key_types.specs.Columns.{columns_of};
-ghost use Rattle.script_text.specs.Grammar.{LineFits, RowFits, PutFits};
-ghost use Rattle.script_text.specs.Parts.{components_in, put_in, said_in, Sees};
+ghost use Rattle.script_text.specs.Parts.{put_with, short_row, Sees};
 ghost use Rattle.script_text.specs.Reading.{is_comment, is_blank, line_of};
-ghost use Rattle.script_text.specs.Script.{at_line, key_of, row_key, bytes_in, short_value, put_of, put_on, in_front, puts_from, script_of, Answers};
+ghost use Rattle.script_text.specs.Script.{at_line, short_key, short_value, put_on, in_front, puts_from, script_of, Answers};
 ghost use Rattle.script_text.specs.Lines.{lines_of};
 
 use crate::lines::{first_line, over};
 use crate::puts::{PutLine, read_whole};
 use crate::script::{Batch, LineCause, Put, PutList, Script, ScriptError};
-use byte_comparable::{KeyError, clustering_string, partition_string};
 use grammar::Stop;
-use key_types::{KeyBytes, ListOf, NoMemory, Schema, Value, ValueBytes, ValueList, is_text};
+use key_types::{KeyBytes, ListOf, NoMemory, Schema, ValueBytes, is_text};
 use std::alloc::Global;
 
 const MOST_BYTES: usize = 67_108_864;
 
 const MOST_LINES: usize = 1_000_000;
+
+const LONGEST_KEY: usize = 1024;
 
 const LONGEST_VALUE: usize = 65_535;
 
@@ -48,9 +46,7 @@ fn read_line(
     line: u32,
     text: &[u8],
 ) -> Result<Option<PutLine>, ScriptError>
-    requires { IsTrue (is_utf8 text.now) }
-    ensures said { Sees said_in result (at_line line (line_of (columns_of schema.now) text.now)) }
-    ensures fits { IfOk result (λ said. LineFits (columns_of schema.now) (said_in said)) }
+    ensures { Sees (columns_of schema.now) result (at_line line (line_of (columns_of schema.now) text.now)) }
 {
     if is_comment(text) || is_blank(text) {
         return Ok(None);
@@ -70,85 +66,46 @@ fn read_line(
     }
 }
 
-/// The string of a partition.
-#[tactic(auto, using(crate::proofs::Strings::string_fits))]
-fn partition_key(
-    alloc: Global,
-    schema: &Schema,
-    line: u32,
-    values: &ValueList,
-) -> Result<KeyBytes, ScriptError>
-    requires { EachFits (kinds_of schema.now.partition) (values_of values.now) }
-    ensures { Answers result (at_line line (key_of (kinds_of schema.now.partition) (values_of values.now))) }
+/// The string of a key's part, where it has at most 1,024 bytes.
+fn short_key(line: u32, string: KeyBytes) -> Result<KeyBytes, ScriptError>
+    ensures { Answers result (at_line line (short_key string)) }
 {
-    match partition_string(alloc, schema, values) {
-        Ok(string) => Ok(string),
-        Err(KeyError::TooLong(length)) => {
-            Err(ScriptError::BadLine(line, LineCause::KeyTooLong(length)))
-        }
-        Err(KeyError::NoMemory) => Err(ScriptError::NoMemory),
-        Err(_) => unreachable!(),
+    if string.len() > LONGEST_KEY {
+        return Err(ScriptError::BadLine(line, LineCause::KeyTooLong(string.len())));
     }
+    Ok(string)
 }
 
-/// The string of a row within its partition.
-#[tactic(auto, using(crate::proofs::Strings::string_fits))]
-fn clustering_key(
+/// The string of a row within its partition, where it has at most 1,024 bytes; a static value has the empty one.
+fn short_row(
     alloc: Global,
-    schema: &Schema,
     line: u32,
-    values: &ValueList,
+    clustering: Option<KeyBytes>,
 ) -> Result<KeyBytes, ScriptError>
-    requires { EachFits (kinds_of schema.now.clustering) (values_of values.now) }
-    ensures { Answers result (at_line line (key_of (kinds_of schema.now.clustering) (values_of values.now))) }
-{
-    match clustering_string(alloc, schema, values) {
-        Ok(string) => Ok(string),
-        Err(KeyError::TooLong(length)) => {
-            Err(ScriptError::BadLine(line, LineCause::KeyTooLong(length)))
-        }
-        Err(KeyError::NoMemory) => Err(ScriptError::NoMemory),
-        Err(_) => unreachable!(),
-    }
-}
-
-/// The string of a row within its partition; a static value has the empty one.
-fn row_key(
-    alloc: Global,
-    schema: &Schema,
-    line: u32,
-    clustering: &Option<ValueList>,
-) -> Result<KeyBytes, ScriptError>
-    requires { RowFits (columns_of schema.now) (components_in clustering.now) }
-    ensures { Answers result (at_line line (row_key (kinds_of schema.now.clustering) (components_in clustering.now))) }
+    ensures { Answers result (at_line line (short_row clustering)) }
 {
     match clustering {
-        Some(values) => clustering_key(alloc, schema, line, values),
+        Some(string) => short_key(line, string),
         None => Ok(KeyBytes::new(alloc)),
     }
 }
 
 /// The bytes of a value, where there are at most 65,535.
-fn short_value(line: u32, value: Value) -> Result<ValueBytes, ScriptError>
-    requires { Fits text (value_of value) ⊎ Fits blob (value_of value) }
-    ensures { Answers result (at_line line (short_value (bytes_in (value_of value)))) }
+fn short_value(line: u32, value: ValueBytes) -> Result<ValueBytes, ScriptError>
+    ensures { Answers result (at_line line (short_value value)) }
 {
-    let Value::Bytes(bytes) = value else {
-        unreachable!();
-    };
-    if bytes.len() > LONGEST_VALUE {
-        return Err(ScriptError::BadLine(line, LineCause::ValueTooLong(bytes.len())));
+    if value.len() > LONGEST_VALUE {
+        return Err(ScriptError::BadLine(line, LineCause::ValueTooLong(value.len())));
     }
-    Ok(bytes)
+    Ok(value)
 }
 
-/// The put with its strings.
-fn accept(alloc: Global, schema: &Schema, line: u32, put: PutLine) -> Result<Put, ScriptError>
-    requires { PutFits (columns_of schema.now) (put_in put) }
-    ensures { Answers result (at_line line (put_of (columns_of schema.now) line (put_in put))) }
+/// The put of a line's strings and its value.
+fn accept(alloc: Global, line: u32, put: PutLine) -> Result<Put, ScriptError>
+    ensures { Answers result (at_line line (put_with line put)) }
 {
-    let partition = partition_key(alloc, schema, line, &put.partition)?;
-    let clustering = row_key(alloc, schema, line, &put.clustering)?;
+    let partition = short_key(line, put.partition)?;
+    let clustering = short_row(alloc, line, put.clustering)?;
     let value = short_value(line, put.value)?;
     Ok(Put {
         line,
@@ -171,7 +128,7 @@ fn read_put(
         return Err(ScriptError::BadLine(line, LineCause::NotUtf8));
     }
     match read_line(alloc, schema, line, text) {
-        Ok(Some(put)) => match accept(alloc, schema, line, put) {
+        Ok(Some(put)) => match accept(alloc, line, put) {
             Ok(put) => Ok(Some(put)),
             Err(error) => Err(error),
         },

@@ -2,7 +2,7 @@ use Rattle.std.proofs.Common.{◌≡◌, ◌++◌, [], ◌∷◌, ◌∙◌, Lis
 use Rattle.std.specs.Prelude.{OnOk}
 use Rattle.byte_comparable.specs.Encoding.{escaped}
 use Rattle.byte_comparable.proofs.Zeros.{escaped_whole}
-use Rattle.byte_comparable.proofs.encoding.put_escaped.Goals as goal
+use Rattle.byte_comparable.proofs.encoding.encode_bytes.Goals as goal
 
 pub returns-clause-ok : goal.returns-clause-ok
 returns-clause-ok c =
