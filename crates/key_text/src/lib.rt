@@ -13,5 +13,5 @@ mod writing;
 pub use laws::law_literal_texts;
 pub use reading::{LiteralError, read_list, read_value};
 pub use tokens::list_ends;
-pub use values::{plain_text, read_closed_blob, read_closed_text, read_marked, read_marked_list};
+pub use values::{plain_text, read_closed_blob, read_closed_text, read_marked};
 pub use writing::{write_list, write_row, write_static, write_value};
