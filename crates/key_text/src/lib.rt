@@ -13,4 +13,4 @@ mod writing;
 pub use laws::law_literal_texts;
 pub use reading::{LiteralError, read_list, read_value};
 pub use values::{read_marked, read_marked_list};
-pub use writing::{write_list, write_row, write_static, write_value};
+pub use writing::{write_bytes, write_equals, write_list, write_value};
