@@ -14,4 +14,4 @@ pub use laws::law_literal_texts;
 pub use reading::{LiteralError, read_list, read_value};
 pub use tokens::list_ends;
 pub use values::{plain_text, read_closed_blob, read_closed_text, read_marked};
-pub use writing::{write_list, write_row, write_static, write_value};
+pub use writing::{write_bytes, write_equals, write_list, write_value};

@@ -2,7 +2,7 @@ ghost use Rattle.std.specs.Prelude.{◌≡◌, IfOk};
 ghost use Rattle.key_types.specs.Kinds.{kind_of, kinds_of, values_of, EachFits, more, end, int};
 
 use super::*;
-use key_types::{ByteList, ColType, Schema, TypeList, ValueList, ValueType, is_text};
+use key_types::{ByteList, ColType, TypeList, ValueList, ValueType, is_text};
 use std::alloc::Global;
 use std::process::Abort;
 use std::test::Fail;
@@ -127,22 +127,12 @@ fn tuples(rt: HostRuntime) -> Result<(), Fail> {
 }
 
 #[test]
-fn rows(rt: HostRuntime) -> Result<(), Fail> {
+fn values_of_rows(rt: HostRuntime) -> Result<(), Fail> {
     let alloc = rt.alloc();
-    let schema = Schema {
-        partition: one(alloc, ColType::Int)?,
-        clustering: TypeList::End,
-        value: ValueType::Text,
-        static_value: None,
-    };
-    let partition = components(alloc, &schema.partition, b"(1)")?;
-    let clustering = components(alloc, &schema.clustering, b"()")?;
     let mut out = ByteList::new(alloc);
-    write_row(&schema, &partition, &clustering, b"a", &mut out)?;
-    assert_eq!(rt; out.as_slice(), b"(1) () = 'a'".as_slice());
-    out.truncate(0);
-    write_static(&schema, ValueType::Blob, &partition, b"a", &mut out)?;
-    assert_eq!(rt; out.as_slice(), b"(1) static = 0x61".as_slice());
+    write_equals(ValueType::Text, b"it's", &mut out)?;
+    write_bytes(ValueType::Blob, b"a", &mut out)?;
+    assert_eq!(rt; out.as_slice(), b" = 'it''s'0x61".as_slice());
     Ok(())
 }
 

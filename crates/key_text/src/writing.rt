@@ -1,12 +1,12 @@
 ghost use Rattle.std.specs.Prelude.{◌≡◌, ◌<◌, ◌++◌, ◌∷◌, [], length, take, OnOk, OnErr};
 ghost use Rattle.std.specs.Fmt.{signed_decimal};
-ghost use Rattle.key_types.specs.Kinds.{kind_of, kinds_of, value_of, values_of, Fits, EachFits};
+ghost use Rattle.key_types.specs.Kinds.{kind_of, kinds_of, value_of, values_of, EachFits};
 ghost use Rattle.key_types.specs.Literals.{text_literal, blob_literal, boolean_literal, hex_digit, quotes_doubled, hex_digits, literal, literals, list_literal};
-ghost use Rattle.key_text.specs.Written.{further_literals, value_literal, equals_literal, key_literal, row_literal, static_literal};
+ghost use Rattle.key_text.specs.Written.{further_literals, value_literal, equals_literal};
 
 use crate::quotes::split_quote;
 use itoa::Buffer;
-use key_types::{ByteList, ColType, NoMemory, Schema, TypeList, Value, ValueList, ValueType};
+use key_types::{ByteList, ColType, NoMemory, TypeList, Value, ValueList, ValueType};
 
 /// Puts a number at the end in decimal.
 fn put_number(number: i64, out: &mut ByteList) -> Result<(), NoMemory>
@@ -144,9 +144,8 @@ fn put_further(kinds: &TypeList, values: &ValueList, out: &mut ByteList) -> Resu
     }
 }
 
-/// Puts the literal of a value that fits its type at the end. Without memory `out` is as before.
+/// Puts the literal of a value of the type at the end. Without memory `out` is as before.
 pub fn write_value(kind: &ColType, value: &Value, out: &mut ByteList) -> Result<(), NoMemory>
-    requires { Fits (kind_of kind.now) (value_of value.now) }
     ensures ok { OnOk result (out.new ≡ out.old ++ literal (kind_of kind.now) (value_of value.now)) }
     ensures err { OnErr result (out.new ≡ out.old) }
 {
@@ -172,14 +171,14 @@ pub fn write_list(kinds: &TypeList, values: &ValueList, out: &mut ByteList) -> R
     written
 }
 
-/// Puts a value of a row at the end.
-fn put_row_value(kind: ValueType, value: &[u8], out: &mut ByteList) -> Result<(), NoMemory>
-    ensures ok { OnOk result (out.new ≡ out.old ++ value_literal kind value.now) }
+/// Puts the literal of a text or a blob at the end.
+fn put_bytes(kind: ValueType, bytes: &[u8], out: &mut ByteList) -> Result<(), NoMemory>
+    ensures ok { OnOk result (out.new ≡ out.old ++ value_literal kind bytes.now) }
     ensures kept { take (length out.old) out.new ≡ out.old }
 {
     match kind {
-        ValueType::Text => put_text(value, out),
-        ValueType::Blob => put_blob(value, out),
+        ValueType::Text => put_text(bytes, out),
+        ValueType::Blob => put_blob(bytes, out),
     }
 }
 
@@ -189,93 +188,29 @@ fn put_equals(kind: ValueType, value: &[u8], out: &mut ByteList) -> Result<(), N
     ensures kept { take (length out.old) out.new ≡ out.old }
 {
     out.extend(b" = ")?;
-    put_row_value(kind, value, out)
+    put_bytes(kind, value, out)
 }
 
-/// Puts the partition's components and those within it at the end.
-fn put_key(
-    schema: &Schema,
-    partition: &ValueList,
-    clustering: &ValueList,
-    out: &mut ByteList,
-) -> Result<(), NoMemory>
-    ensures ok { OnOk result (out.new ≡ out.old ++ key_literal (kinds_of schema.now.partition) (kinds_of schema.now.clustering) (values_of partition.now) (values_of clustering.now)) }
-    ensures kept { take (length out.old) out.new ≡ out.old }
-{
-    put_list(&schema.partition, partition, out)?;
-    out.extend(b" ")?;
-    put_list(&schema.clustering, clustering, out)
-}
-
-/// Puts the partition's components, those within it and the value at the end.
-fn put_row(
-    schema: &Schema,
-    partition: &ValueList,
-    clustering: &ValueList,
-    value: &[u8],
-    out: &mut ByteList,
-) -> Result<(), NoMemory>
-    ensures ok { OnOk result (out.new ≡ out.old ++ row_literal (kinds_of schema.now.partition) (kinds_of schema.now.clustering) schema.now.value
-        (values_of partition.now) (values_of clustering.now) value.now) }
-    ensures kept { take (length out.old) out.new ≡ out.old }
-{
-    put_key(schema, partition, clustering, out)?;
-    put_equals(schema.value, value, out)
-}
-
-/// Puts a row at the end, without a line feed: the partition's components, those within it, an equals sign and the value. Without memory `out` is as before.
-pub fn write_row(
-    schema: &Schema,
-    partition: &ValueList,
-    clustering: &ValueList,
-    value: &[u8],
-    out: &mut ByteList,
-) -> Result<(), NoMemory>
-    requires partition { EachFits (kinds_of schema.now.partition) (values_of partition.now) }
-    requires clustering { EachFits (kinds_of schema.now.clustering) (values_of clustering.now) }
-    ensures ok { OnOk result (out.new ≡ out.old ++ row_literal (kinds_of schema.now.partition) (kinds_of schema.now.clustering) schema.now.value
-        (values_of partition.now) (values_of clustering.now) value.now) }
+/// Puts the literal of a text or a blob of these bytes at the end. Without memory `out` is as before.
+pub fn write_bytes(kind: ValueType, bytes: &[u8], out: &mut ByteList) -> Result<(), NoMemory>
+    ensures ok { OnOk result (out.new ≡ out.old ++ value_literal kind bytes.now) }
     ensures err { OnErr result (out.new ≡ out.old) }
 {
     let before = out.len();
-    let written = put_row(schema, partition, clustering, value, out);
+    let written = put_bytes(kind, bytes, out);
     if written.is_err() {
         out.truncate(before);
     }
     written
 }
 
-/// Puts the partition's components, the word `static` and the value at the end.
-fn put_static(
-    schema: &Schema,
-    kind: ValueType,
-    partition: &ValueList,
-    value: &[u8],
-    out: &mut ByteList,
-) -> Result<(), NoMemory>
-    ensures ok { OnOk result (out.new ≡ out.old ++ static_literal (kinds_of schema.now.partition) kind (values_of partition.now) value.now) }
-    ensures kept { take (length out.old) out.new ≡ out.old }
-{
-    put_list(&schema.partition, partition, out)?;
-    out.extend(b" static")?;
-    put_equals(kind, value, out)
-}
-
-/// Puts a static value of this type at the end, without a line feed: the partition's components, the word `static`, an equals sign and the value. Without memory
-/// `out` is as before.
-pub fn write_static(
-    schema: &Schema,
-    kind: ValueType,
-    partition: &ValueList,
-    value: &[u8],
-    out: &mut ByteList,
-) -> Result<(), NoMemory>
-    requires { EachFits (kinds_of schema.now.partition) (values_of partition.now) }
-    ensures ok { OnOk result (out.new ≡ out.old ++ static_literal (kinds_of schema.now.partition) kind (values_of partition.now) value.now) }
+/// Puts an equals sign and the value of a row, or a static value, at the end. Without memory `out` is as before.
+pub fn write_equals(kind: ValueType, value: &[u8], out: &mut ByteList) -> Result<(), NoMemory>
+    ensures ok { OnOk result (out.new ≡ out.old ++ equals_literal kind value.now) }
     ensures err { OnErr result (out.new ≡ out.old) }
 {
     let before = out.len();
-    let written = put_static(schema, kind, partition, value, out);
+    let written = put_equals(kind, value, out);
     if written.is_err() {
         out.truncate(before);
     }
