@@ -179,10 +179,10 @@ starts columns None limit long = tt
 starts columns (Some m) limit long =
     (record { rest = bytes_of m data_id; is = refl; ended = λ e. cc; long = long }, record { onward = λ more stop walk. walk; only = λ every stop walk. (every, refl, walk) })
 
-pub fresh : (columns : Columns) (files : Option Files) (scan : Scan) (limit : ℕ) → scan.walk.window ≡ record { bytes = []; at = 0; limit = limit; whole = false } → inside_of columns scan.walk ≡ None → scan.text ≡ [] → scan.rows ≡ 0
+pub fresh : (columns : Columns) (files : Option Files) (scan : Scan) (limit : ℕ) → scan.walk.window ≡ record { bytes = []; at = 0; limit = limit; whole = false } → inside_of scan.walk ≡ None → scan.text ≡ [] → scan.rows ≡ 0
     → IfSome files (λ m. length (bytes_of m data_id) ≡ limit) → Holding columns files scan [] []
 fresh columns files scan limit window outside text rows long = record {
-  walked = subst (λ (w : Unread). IfSome files (λ m. Continues (bytes_of m data_id) w × Passes columns (bytes_of m data_id) None 0 [] (inside_of columns scan.walk) w.at)) (sym window)
+  walked = subst (λ (w : Unread). IfSome files (λ m. Continues (bytes_of m data_id) w × Passes columns (bytes_of m data_id) None 0 [] (inside_of scan.walk) w.at)) (sym window)
       (subst (λ (o : Option (List ℕ)). IfSome files (λ m. Continues (bytes_of m data_id) (record { bytes = []; at = 0; limit = limit; whole = false }) × Passes columns (bytes_of m data_id) None 0 [] o 0)) (sym outside) (starts columns files limit long));
   text = text;
   count = rows;

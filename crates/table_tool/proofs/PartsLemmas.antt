@@ -1,16 +1,11 @@
 -- How the string of an entry's key parts.
-use Rattle.std.proofs.Common.{◌≡◌, ℕ, ◌+◌, ◌-◌, true, List, ◌++◌, length, take, drop, Err, arith, refl, sym, ◌∙◌, ap, length-append}
+use Rattle.std.proofs.Common.{◌≡◌, ℕ, ◌+◌, ◌-◌, true, List, ◌++◌, length, take, drop, arith, sym, ◌∙◌, ap, length-append}
 use Rattle.std.proofs.Math.Seq.{take-append_seam, drop-append_seam}
 use Rattle.key_types.specs.Columns.{Columns}
-use Rattle.key_types.specs.Kinds.{Kinds, EachFits}
-use Rattle.key_types.specs.declared.kinds.ValueList.{ValueList}
+use Rattle.key_types.specs.Kinds.{Kinds}
 use Rattle.key_types.specs.Table.{Entry}
-use Rattle.byte_comparable.specs.Encoding.{key_string}
 use Rattle.key_decode.specs.Reading.{values_at}
 use Rattle.key_decode.specs.Strings.{IsStringOf, BeginsString}
-use Rattle.key_decode.specs.Shapes.{Refuses}
-use Rattle.key_decode.specs.declared.decoding.DecodeError.{DecodeError}
-use Rattle.key_decode.specs.declared.decoding.DecodeError.TheVariants.{Truncated, BadByte, BadUtf8, NoMemory}
 use Rattle.key_decode.proofs.Known.{read_of, taken}
 use Rattle.table_tool.specs.Entries.{partition_in, clustering_in, has_some, rest_of}
 use Rattle.table_tool.specs.Grouping.{IsEntry}
@@ -43,15 +38,6 @@ module _ (columns : Columns) where
         ap (λ (m : ℕ). take m key) (sym long) ∙ ap (take (length string)) e ∙ take-append_seam string rest ∙ sym parts.0,
         ap (λ (m : ℕ). drop m key) (sym long) ∙ ap (drop (length string)) e ∙ drop-append_seam string rest ∙ sym parts.1,
       )
-
--- ---- strings of keys are decoded
-
--- a string of a key is refused for want of memory alone
-pub only_memory : (ts : Kinds) (string : List ℕ) (e : DecodeError) → IsStringOf ts string → Refuses {X = ValueList} (key_string ts) (EachFits ts) string (Err e) → e ≡ NoMemory
-only_memory ts string NoMemory is refused = refl
-only_memory ts string Truncated (vs, is) refused = let p = taken ts string vs is in absurd (refused vs p.0 (sym p.1))
-only_memory ts string (BadByte at) (vs, is) refused = let p = taken ts string vs is in absurd (refused vs p.0 (sym p.1))
-only_memory ts string BadUtf8 (vs, is) refused = let p = taken ts string vs is in absurd (refused vs p.0 (sym p.1))
 
 -- a string of a key is never empty
 pub some_string : (ts : Kinds) (string : List ℕ) → IsStringOf ts string → has_some string ≡ true

@@ -1,18 +1,21 @@
 -- The line of an entry names the components of which its key's string is put together.
 use Rattle.std.proofs.Common.{◌≡◌, ℕ, ◌+◌, ◌≤◌, length, Bool, true, false, List, [], ◌∷◌, ◌++◌, Option, Some, None, Result, Ok, Err, OnOk, refl, sym, ◌∙◌, ap, arith, append_assoc}
 use Rattle.std.proofs.lemmas.List.{append-nil}
-use Rattle.std.specs.Prelude.{if◌then◌else◌}
+use Rattle.std.specs.Prelude.{codes, if◌then◌else◌}
 use Rattle.key_types.specs.declared.schema.ValueType.{ValueType}
 use Rattle.key_types.specs.Columns.{Columns}
 use Rattle.key_types.specs.Kinds.{Kinds, end, more, Vals, none, and, EachFits}
+use Rattle.key_types.specs.Literals.{list_literal}
 use Rattle.key_types.specs.Table.{Entry}
 use Rattle.byte_comparable.specs.Encoding.{key_string}
 use Rattle.key_decode.specs.Reading.{values_at}
 use Rattle.key_decode.proofs.Known.{read_key}
-use Rattle.key_text.specs.Written.{row_literal}
+use Rattle.key_text.specs.Written.{equals_literal}
+use Rattle.key_printing.specs.Texts.{IsTextOf, PutsText}
 use Rattle.table_tool.specs.Entries.{has_some, is_row, rest_of, row_count}
 use Rattle.table_tool.specs.Grouping.{row_at}
 use Rattle.table_tool.specs.Standing.{fixed_entries}
+use Rattle.table_tool.specs.Lines.{EndsLine}
 use Rattle.table_tool.specs.Printed.{entry_line, entry_lines, line_behind, line_by, row_by, row_line, static_by, static_line}
 
 pub ok_so : {T E : Type 0} (r : Result T E) (P Q : Type 0) → (P → Q) → OnOk r P → OnOk r Q
@@ -29,6 +32,17 @@ some_key (more t ts) (and v vs) fits = refl
 pub row_few : (clustering : List ℕ) → row_at clustering ≤ 1
 row_few [] = omega arith
 row_few (b ∷ bs) = omega arith
+
+-- ---- texts one behind the other
+
+four_behind : (before a b c d : List ℕ) → before ++ a ++ b ++ c ++ d ≡ before ++ (a ++ b ++ c ++ d)
+four_behind before a b c d =
+    ap (λ l. l ++ c ++ d) (append_assoc before a b) ∙ ap (λ l. l ++ d) (append_assoc before (a ++ b) c) ∙ append_assoc before (a ++ b ++ c) d
+
+five_behind : (before a b c d e : List ℕ) → before ++ a ++ b ++ c ++ d ++ e ≡ before ++ (a ++ b ++ c ++ d ++ e)
+five_behind before a b c d e = ap (λ l. l ++ e) (four_behind before a b c d) ∙ append_assoc before (a ++ b ++ c ++ d) e
+
+-- ---- lines
 
 module _ (columns : Columns) where
   read_whole : (ts : Kinds) (vs : Vals) → EachFits ts vs → values_at ts (key_string ts vs) ≡ Ok (vs, [])
@@ -63,30 +77,46 @@ module _ (columns : Columns) where
 
   -- ---- what is written
 
-  pub row_written : (partition clustering : Vals) (string value out mid new : List ℕ) → EachFits columns.partition partition → EachFits columns.clustering clustering
-      → string ≡ key_string columns.clustering clustering → mid ≡ out ++ row_literal columns.partition columns.clustering columns.value partition clustering value
-      → new ≡ mid ++ 10 ∷ [] → new ≡ out ++ entry_line columns (key_string columns.partition partition ++ string, value)
-  row_written partition clustering string value out mid new fits within is first second =
-      let line = ap (λ (s : List ℕ). entry_line columns (key_string columns.partition partition ++ s, value)) is ∙ row_named partition clustering value fits within in
-      second ∙ ap (λ t. t ++ 10 ∷ []) first
-      ∙ append_assoc out (row_literal columns.partition columns.clustering columns.value partition clustering value) (10 ∷ [])
-      ∙ ap (λ t. out ++ t) (sym line)
+  -- the line that begins with the text of a partition's components
+  pub row_ended : (string value so_far spaced named valued whole : List ℕ) → spaced ≡ so_far ++ codes " " → PutsText columns.clustering string spaced named
+      → valued ≡ named ++ equals_literal columns.value value → whole ≡ valued ++ codes "\n" → EndsLine columns string value so_far whole
+  row_ended string value so_far spaced named valued whole space (text, (clustering, within, is, spelled), put) equals feed before key begun (partition, fits, is_key, begins) so =
+      let names = list_literal columns.clustering clustering in
+      let ends = equals_literal columns.value value in
+      let all = ap (λ l. l ++ codes " " ++ names ++ ends ++ codes "\n") (so ∙ ap (λ l. before ++ l) begins) in
+      let built = feed ∙ ap (λ l. l ++ codes "\n") (equals ∙ ap (λ l. l ++ ends) (put ∙ ap (λ l. l ++ text) space ∙ ap (λ l. so_far ++ codes " " ++ l) spelled)) in
+      let line = ap (λ (s : List ℕ). entry_line columns (s, value)) (ap (λ k. k ++ string) is_key ∙ ap (λ s. key_string columns.partition partition ++ s) is) ∙ row_named partition clustering value fits within in
+      built ∙ all ∙ five_behind before (list_literal columns.partition partition) (codes " ") names ends (codes "\n") ∙ ap (λ l. before ++ l) (sym line)
 
-  pub static_written : (partition : Vals) (string rest value out new : List ℕ) → EachFits columns.partition partition → string ≡ key_string columns.partition partition → rest ≡ []
-      → new ≡ out ++ static_by columns columns.static_value partition value → new ≡ out ++ entry_line columns (string ++ rest, value)
-  static_written partition string rest value out new fits is empty e =
-      let key : string ++ rest ≡ key_string columns.partition partition = ap (λ r. string ++ r) empty ∙ append-nil string ∙ is in
-      e ∙ ap (λ t. out ++ t) (sym (ap (λ (s : List ℕ). entry_line columns (s, value)) key ∙ static_named partition value fits))
+  pub static_ended : (type : ValueType) (value so_far whole : List ℕ) → columns.static_value ≡ Some type
+      → whole ≡ so_far ++ codes " static" ++ equals_literal type value ++ codes "\n" → EndsLine columns [] value so_far whole
+  static_ended type value so_far whole is put before key begun (partition, fits, is_key, begins) so =
+      let ends = equals_literal type value in
+      let all = ap (λ l. l ++ codes " static" ++ ends ++ codes "\n") (so ∙ ap (λ l. before ++ l) begins) in
+      let line = ap (λ (s : List ℕ). entry_line columns (s, value)) (append-nil key ∙ is_key) ∙ static_line_named type partition value is fits in
+      put ∙ all ∙ four_behind before (list_literal columns.partition partition) (codes " static") ends (codes "\n") ∙ ap (λ l. before ++ l) (sym line)
+
+  -- behind the string that was printed
+  pub line_ended : (string clustering value before so_far whole : List ℕ) → PutsText columns.partition string before so_far → EndsLine columns clustering value so_far whole
+      → whole ≡ before ++ entry_line columns (string ++ clustering, value)
+  line_ended string clustering value before so_far whole (text, is, put) ends = ends before string text is put
 
   -- the static value of a partition, where it has one
-  pub fixed_written : (partition : Vals) (value out new : List ℕ) → EachFits columns.partition partition → new ≡ out ++ static_by columns columns.static_value partition value
-      → new ≡ out ++ entry_lines columns (fixed_entries (key_string columns.partition partition) (Some value))
-  fixed_written partition value out new fits e =
-      e ∙ ap (λ t. out ++ t) (sym (static_named partition value fits) ∙ sym (append-nil (entry_line columns (key_string columns.partition partition, value))))
+  pub fixed_ended : (key text value before so_far whole : List ℕ) → IsTextOf columns.partition key text → so_far ≡ before ++ text → EndsLine columns [] value so_far whole
+      → whole ≡ before ++ entry_lines columns (fixed_entries key (Some value))
+  fixed_ended key text value before so_far whole is put ends =
+      ends before key text is put ∙ ap (λ t. before ++ t) (ap (λ (s : List ℕ). entry_line columns (s, value)) (append-nil key) ∙ sym (append-nil (entry_line columns (key, value))))
 
-  pub fixed_count : (partition : Vals) (fixed : Option (List ℕ)) → EachFits columns.partition partition → row_count columns (fixed_entries (key_string columns.partition partition) fixed) ≡ 0
-  fixed_count partition None fits = refl
-  fixed_count partition (Some value) fits = ap (λ (b : Bool). (if b then 1 else 0) + 0) (is_static_entry partition value fits)
+  -- ---- which entries are of rows
+
+  pub is_row_behind : (key text rest value : List ℕ) → IsTextOf columns.partition key text → is_row columns (key ++ rest, value) ≡ has_some rest
+  is_row_behind key text rest value (partition, fits, is, spelled) =
+      ap (λ (k : List ℕ). is_row columns (k ++ rest, value)) is ∙ is_row_entry partition rest value fits
+
+  pub fixed_count : (key text : List ℕ) (fixed : Option (List ℕ)) → IsTextOf columns.partition key text → row_count columns (fixed_entries key fixed) ≡ 0
+  fixed_count key text None is = refl
+  fixed_count key text (Some value) is =
+      ap (λ (b : Bool). (if b then 1 else 0) + 0) (ap (λ (k : List ℕ). is_row columns (k, value)) (sym (append-nil key)) ∙ is_row_behind key text [] value is)
 
   -- ---- lines and more of them
 

@@ -6,9 +6,9 @@ use Rattle.key_types.specs.Columns.{Columns}
 use Rattle.schema_text.proofs.Short.{short}
 use Rattle.schema_text.proofs.Unique.{one}
 use Rattle.table_tool.specs.Standing.{AreColumns}
-use Rattle.command_line.specs.Said.{Said, key, list, load, scan}
+use Rattle.command_line.specs.Said.{Said, key, list, load}
 use Rattle.command_line.specs.declared.command.WordsError.{WordsError}
-use Rattle.table_tool.specs.Request.{AreKey, AreLoad, AreRefused, AskKey, AskList, AskLoad, AskScan, IsSchemaOf, part_kinds, said_way}
+use Rattle.table_tool.specs.Request.{AreRefused, AskKey, AskList, AskLoad, IsSchemaOf, part_kinds, said_way}
 use Rattle.key_types.specs.Kinds.{Kinds}
 use Rattle.key_tool.specs.declared.request.KeyWay.{KeyWay}
 use Rattle.key_tool.specs.declared.request.KeyWay.TheVariants.{Encode, Decode}
@@ -29,12 +29,6 @@ module _ (words : List (String Global)) (columns : Columns) where
       let same : text ≡ text' = cc in
       one_schema_of text' columns others (subst (λ (t : List ℕ). IsSchemaOf t columns) same is) is'
 
-  pub list_not_load : AskList words columns → AreLoad words → ⊥
-  list_not_load (text, say, is) (others, (text', say', is')) = let texts : list text ≡ load text' = same_said _ _ _ say say' in cc
-
-  pub list_not_scan : AskList words columns → AskScan words → ⊥
-  list_not_scan (text, say, is) say' = let texts : list text ≡ scan = same_said _ _ _ say say' in cc
-
   pub list_not_refused : AskList words columns → AreRefused words → ⊥
   list_not_refused (text, say, is) (inl e) = let both = sym say ∙ e in cc
   list_not_refused (text, say, is) (inr (text', inl say', none)) =
@@ -44,10 +38,6 @@ module _ (words : List (String Global)) (columns : Columns) where
   list_not_refused (text, say, is) (inr (text', inr (inl say'), none)) = let texts : list text ≡ load text' = same_said _ _ _ say say' in cc
   list_not_refused (text, say, is) (inr (text', inr (inr (clustering, way, say')), none)) = let texts : list text ≡ key text' clustering way = same_said _ _ _ say say' in cc
 
-  pub list_not_key : AskList words columns → AreKey words → ⊥
-  list_not_key (text, say, is) (kinds, way, text', (schema, others, clustering, say', _, _)) =
-      let texts : list text ≡ key schema clustering (said_way way text') = same_said _ _ _ say say' in cc
-
   -- ---- `load`
 
   pub load_one : AskLoad words columns → (others : Columns) → AskLoad words others → columns ≡ others
@@ -55,12 +45,6 @@ module _ (words : List (String Global)) (columns : Columns) where
       let texts : load text ≡ load text' = same_said _ _ _ say say' in
       let same : text ≡ text' = cc in
       one_schema_of text' columns others (subst (λ (t : List ℕ). IsSchemaOf t columns) same is) is'
-
-  pub load_not_list : AskLoad words columns → (others : Columns) → AskList words others → ⊥
-  load_not_list (text, say, is) others (text', say', is') = let texts : load text ≡ list text' = same_said _ _ _ say say' in cc
-
-  pub load_not_scan : AskLoad words columns → AskScan words → ⊥
-  load_not_scan (text, say, is) say' = let texts : load text ≡ scan = same_said _ _ _ say say' in cc
 
   pub load_not_refused : AskLoad words columns → AreRefused words → ⊥
   load_not_refused (text, say, is) (inl e) = let both = sym say ∙ e in cc
@@ -71,31 +55,9 @@ module _ (words : List (String Global)) (columns : Columns) where
   load_not_refused (text, say, is) (inr (text', inr (inr (clustering, way, say')), none)) = let texts : load text ≡ key text' clustering way = same_said _ _ _ say say' in cc
   load_not_refused (text, say, is) (inr (text', inl say', none)) = let texts : load text ≡ list text' = same_said _ _ _ say say' in cc
 
-  pub load_not_key : AskLoad words columns → AreKey words → ⊥
-  load_not_key (text, say, is) (kinds, way, text', (schema, others, clustering, say', _, _)) =
-      let texts : load text ≡ key schema clustering (said_way way text') = same_said _ _ _ say say' in cc
-
 -- its text is short enough for Schema.txt
 pub load_columns : (words : List (String Global)) (columns : Columns) → AskLoad words columns → AreColumns columns
 load_columns words columns (text, say, is) = (is.bounds, (let long = short columns text is.is in let few = is.short in omega arith))
-
--- ---- `scan`
-
-pub scan_not_list : (words : List (String Global)) → AskScan words → (columns : Columns) → AskList words columns → ⊥
-scan_not_list words say columns (text, say', is) = let texts : scan ≡ list text = same_said _ _ _ say say' in cc
-
-pub scan_not_load : (words : List (String Global)) → AskScan words → AreLoad words → ⊥
-scan_not_load words say (columns, (text, say', is)) = let texts : scan ≡ load text = same_said _ _ _ say say' in cc
-
-pub scan_not_refused : (words : List (String Global)) → AskScan words → AreRefused words → ⊥
-scan_not_refused words say (inl e) = let both = sym say ∙ e in cc
-scan_not_refused words say (inr (text, inl say', none)) = let texts : scan ≡ list text = same_said _ _ _ say say' in cc
-scan_not_refused words say (inr (text, inr (inl say'), none)) = let texts : scan ≡ load text = same_said _ _ _ say say' in cc
-scan_not_refused words say (inr (text, inr (inr (clustering, way, say')), none)) = let texts : scan ≡ key text clustering way = same_said _ _ _ say say' in cc
-
-pub scan_not_key : (words : List (String Global)) → AskScan words → AreKey words → ⊥
-scan_not_key words say (kinds, way, text, (schema, columns, clustering, say', _, _)) =
-    let texts : scan ≡ key schema clustering (said_way way text) = same_said _ _ _ say say' in cc
 
 -- ---- `key`
 
@@ -106,24 +68,6 @@ same_way Decode Encode a b e = cc
 same_way Decode Decode a b e = (refl, cc)
 
 module _ (words : List (String Global)) (kinds : Kinds) (way : KeyWay) (text : List ℕ) where
-  pub key_not_list : AskKey words kinds way text → (columns : Columns) → AskList words columns → ⊥
-  key_not_list ask columns asked = list_not_key words columns asked (kinds, way, text, ask)
-
-  pub key_not_load : AskKey words kinds way text → AreLoad words → ⊥
-  key_not_load ask (columns, asked) = load_not_key words columns asked (kinds, way, text, ask)
-
-  pub key_not_scan : AskKey words kinds way text → AskScan words → ⊥
-  key_not_scan ask asked = scan_not_key words asked (kinds, way, text, ask)
-
-  pub key_not_refused : AskKey words kinds way text → AreRefused words → ⊥
-  key_not_refused (schema, columns, clustering, say, is, _) (inl e) = let both = sym say ∙ e in cc
-  key_not_refused (schema, columns, clustering, say, is, _) (inr (schema', inl say', none)) = let texts : key schema clustering (said_way way text) ≡ list schema' = same_said _ _ _ say say' in cc
-  key_not_refused (schema, columns, clustering, say, is, _) (inr (schema', inr (inl say'), none)) = let texts : key schema clustering (said_way way text) ≡ load schema' = same_said _ _ _ say say' in cc
-  key_not_refused (schema, columns, clustering, say, is, _) (inr (schema', inr (inr (clustering', way', say')), none)) =
-      let texts : key schema clustering (said_way way text) ≡ key schema' clustering' way' = same_said _ _ _ say say' in
-      let same : schema ≡ schema' = cc in
-      none columns (subst (λ (t : List ℕ). IsSchemaOf t columns) same is)
-
   -- the same types, way and text are asked for
   pub key_one : AskKey words kinds way text → (kinds' : Kinds) (way' : KeyWay) (text' : List ℕ) → AskKey words kinds' way' text' → (kinds ≡ kinds') × (way ≡ way') × (text ≡ text')
   key_one (schema, columns, clustering, say, is, of) kinds' way' text' (schema', columns', clustering', say', is', of') =

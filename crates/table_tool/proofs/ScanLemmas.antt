@@ -51,18 +51,18 @@ module _ (columns : Columns) (files : Option Files) (scan : Scan) (filled : Unre
     (told : IfSome files (λ m. Continues (bytes_of m data_id) scan.walk.window → Continues (bytes_of m data_id) filled)) where
   -- the walk behind the read
   abbrev ahead : Walk
-  ahead = record { window = filled; partition = scan.walk.partition; inside = scan.walk.inside }
+  ahead = record { window = filled; key = scan.walk.key; text = scan.walk.text; inside = scan.walk.inside }
 
   walked_on : (fs : Option Files) (walk' : Walk) (entries more : List Entry) → Moves columns ahead walk' more
       → IfSome fs (λ m. Continues (bytes_of m data_id) scan.walk.window → Continues (bytes_of m data_id) filled)
-      → IfSome fs (λ m. Continues (bytes_of m data_id) scan.walk.window × Passes columns (bytes_of m data_id) None 0 entries (inside_of columns scan.walk) scan.walk.window.at)
-      → IfSome fs (λ m. Continues (bytes_of m data_id) walk'.window × Passes columns (bytes_of m data_id) None 0 (entries ++ more) (inside_of columns walk') walk'.window.at)
+      → IfSome fs (λ m. Continues (bytes_of m data_id) scan.walk.window × Passes columns (bytes_of m data_id) None 0 entries (inside_of scan.walk) scan.walk.window.at)
+      → IfSome fs (λ m. Continues (bytes_of m data_id) walk'.window × Passes columns (bytes_of m data_id) None 0 (entries ++ more) (inside_of walk') walk'.window.at)
   walked_on None walk' entries more moves read walked = tt
   walked_on (Some m) walk' entries more moves read walked =
       let next = moves.3 (bytes_of m data_id) (read walked.0) in
-      let from : Passes columns (bytes_of m data_id) None 0 entries (inside_of columns scan.walk) filled.at =
-      subst (λ (n : ℕ). Passes columns (bytes_of m data_id) None 0 entries (inside_of columns scan.walk) n) (sym place) walked.1 in
-      (next.0, passes_on columns (bytes_of m data_id) entries (inside_of columns scan.walk) filled.at from (inside_of columns walk') walk'.window.at more next.1)
+      let from : Passes columns (bytes_of m data_id) None 0 entries (inside_of scan.walk) filled.at =
+      subst (λ (n : ℕ). Passes columns (bytes_of m data_id) None 0 entries (inside_of scan.walk) n) (sym place) walked.1 in
+      (next.0, passes_on columns (bytes_of m data_id) entries (inside_of scan.walk) filled.at from (inside_of walk') walk'.window.at more next.1)
 
   -- more entries are printed, so many of them of rows
   shown_turn : (walk' : Walk) (text' : List ℕ) (rows rows' : ℕ) → rows' ≡ scan.rows + rows → Shows columns rows ahead walk' scan.text text'
@@ -91,15 +91,15 @@ module _ (columns : Columns) (files : Option Files) (scan : Scan) (filled : Unre
   border_turn walk' text' step = shown_turn walk' text' 0 scan.rows (omega arith) step
 
   stopped : (fs : Option Files) (entries : List Entry) (stop : Option Damage)
-      → ((file : List ℕ) → Continues file filled → Stops columns file (inside_of columns scan.walk) filled.at [] stop)
+      → ((file : List ℕ) → Continues file filled → Stops columns file (inside_of scan.walk) filled.at [] stop)
       → IfSome fs (λ m. Continues (bytes_of m data_id) scan.walk.window → Continues (bytes_of m data_id) filled)
-      → IfSome fs (λ m. Continues (bytes_of m data_id) scan.walk.window × Passes columns (bytes_of m data_id) None 0 entries (inside_of columns scan.walk) scan.walk.window.at)
+      → IfSome fs (λ m. Continues (bytes_of m data_id) scan.walk.window × Passes columns (bytes_of m data_id) None 0 entries (inside_of scan.walk) scan.walk.window.at)
       → IfSome fs (λ m. Stops columns (bytes_of m data_id) None 0 entries stop)
   stopped None entries stop halts read walked = tt
   stopped (Some m) entries stop halts read walked =
-      let from : Passes columns (bytes_of m data_id) None 0 entries (inside_of columns scan.walk) filled.at =
-      subst (λ (n : ℕ). Passes columns (bytes_of m data_id) None 0 entries (inside_of columns scan.walk) n) (sym place) walked.1 in
-      passes_stop columns (bytes_of m data_id) entries (inside_of columns scan.walk) filled.at from stop (halts (bytes_of m data_id) (read walked.0))
+      let from : Passes columns (bytes_of m data_id) None 0 entries (inside_of scan.walk) filled.at =
+      subst (λ (n : ℕ). Passes columns (bytes_of m data_id) None 0 entries (inside_of scan.walk) n) (sym place) walked.1 in
+      passes_stop columns (bytes_of m data_id) entries (inside_of scan.walk) filled.at from stop (halts (bytes_of m data_id) (read walked.0))
 
   pub end_turn : (walk' : Walk) (text' : List ℕ) → StepIs columns ahead walk' scan.text text' met.End
       → TurnIs columns files scan (record { walk = walk'; text = text'; rows = scan.rows }) (Stopped None)
@@ -147,7 +147,7 @@ pushed_on (Some a) (Some b) (Some c) pushed piece told more = more ∙ (ap (λ t
 module _ (columns : Columns) where
   pub shown_part : (files : Option Files) (scan : Scan) (pushed : List ℕ) (entries : List Entry) → Holding columns files scan pushed entries → IfSome files (λ m. IsPart columns m entries)
   shown_part None scan pushed entries held = tt
-  shown_part (Some m) scan pushed entries held = let walked = held.walked in (inside_of columns scan.walk, scan.walk.window.at, walked.1)
+  shown_part (Some m) scan pushed entries held = let walked = held.walked in (inside_of scan.walk, scan.walk.window.at, walked.1)
 
   -- a scan that differs in its text alone
   pub bounded_same : (scan scan' : Scan) → scan'.walk ≡ scan.walk → scan'.rows ≡ scan.rows → IsBounded columns scan → IsBounded columns scan'
@@ -161,7 +161,7 @@ module _ (columns : Columns) where
   pub holding_pushed : (files : Option Files) (scan scan' : Scan) (pushed piece : List ℕ) (entries : List Entry) → scan'.walk ≡ scan.walk → scan'.rows ≡ scan.rows → scan.text ≡ piece ++ scan'.text
       → Holding columns files scan pushed entries → Holding columns files scan' (pushed ++ piece) entries
   holding_pushed files scan scan' pushed piece entries walk rows text held = record {
-    walked = subst (λ (w : Walk). IfSome files (λ m. Continues (bytes_of m data_id) w.window × Passes columns (bytes_of m data_id) None 0 entries (inside_of columns w) w.window.at)) (sym walk) held.walked;
+    walked = subst (λ (w : Walk). IfSome files (λ m. Continues (bytes_of m data_id) w.window × Passes columns (bytes_of m data_id) None 0 entries (inside_of w) w.window.at)) (sym walk) held.walked;
     text = append_assoc pushed piece scan'.text ∙ (ap (λ t. pushed ++ t) (sym text) ∙ held.text);
     count = rows ∙ held.count;
   }

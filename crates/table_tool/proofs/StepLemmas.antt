@@ -4,10 +4,11 @@ use Rattle.std.proofs.lemmas.List.{drop-drop, drop-append-le, append-nil}
 use Rattle.std.proofs.Math.Seq.{drop-append_seam}
 use Rattle.std.specs.Prelude.{if◌then◌else◌, IsSome, is_some}
 use Rattle.key_types.specs.Columns.{Columns}
-use Rattle.key_types.specs.Kinds.{EachFits, values_of}
+use Rattle.key_types.specs.Kinds.{Kinds}
 use Rattle.key_types.specs.Table.{Entry}
 use Rattle.key_decode.specs.Strings.{IsStringOf}
 use Rattle.key_decode.proofs.Known.{string_length}
+use Rattle.key_printing.specs.Texts.{IsTextOf, PutsText}
 use Rattle.bti_nodes.specs.declared.damage.Cause.TheVariants.{BadHead, BadRow}
 use Rattle.key_types.specs.declared.schema.ValueType.{ValueType}
 use Rattle.data_file.specs.declared.parse.ParseRow.{ParseRow}
@@ -24,23 +25,28 @@ use Rattle.table_tool.specs.Printed.{entry_line, entry_lines}
 use Rattle.table_tool.specs.Standing.{fixed_entries}
 use Rattle.table_tool.specs.Window.{Unread, Continues, IsFull, enough}
 use Rattle.table_tool.specs.Walk.{Passes, Stops}
-use Rattle.table_tool.specs.Steps.{IsFixedBehind, Moves, NoFixedBehind, Shows, StepIs, inside_of, key_of}
+use Rattle.table_tool.specs.Steps.{IsFixedBehind, Moves, NoFixedBehind, Shows, StepIs, inside_of}
 use Rattle.table_tool.proofs.PartsLemmas.{some_string}
-use Rattle.table_tool.proofs.PrintedLemmas.{fixed_count, is_row_entry}
+use Rattle.table_tool.proofs.PrintedLemmas.{fixed_count, is_row_behind}
 use Rattle.table_tool.proofs.WalkLemmas.{bad_fixed_stops, bad_head_stops, bad_row_stops, end_passes, file_end_stops, head_passes, row_passes}
 
 -- ---- the partition
 
-module _ (columns : Columns) where
-  pub is_outside : (walk : Walk) → walk.inside ≡ false → inside_of columns walk ≡ None
-  is_outside walk e = ap (λ (b : Bool). if b then Some (key_of columns walk) else None) e
+pub is_outside : (walk : Walk) → walk.inside ≡ false → inside_of walk ≡ None
+is_outside walk e = ap (λ (b : Bool). if b then Some walk.key else None) e
 
-  by_inside : (b : Bool) (key : List ℕ) → (b ≡ false → ⊥) → (if b then Some key else None) ≡ Some key
-  by_inside true key ne = refl
-  by_inside false key ne = absurd (ne refl)
+by_inside : (b : Bool) (key : List ℕ) → (b ≡ false → ⊥) → (if b then Some key else None) ≡ Some key
+by_inside true key ne = refl
+by_inside false key ne = absurd (ne refl)
 
-  pub is_inside : (walk : Walk) → (walk.inside ≡ false → ⊥) → inside_of columns walk ≡ Some (key_of columns walk)
-  is_inside walk ne = by_inside walk.inside (key_of columns walk) ne
+pub is_inside : (walk : Walk) → (walk.inside ≡ false → ⊥) → inside_of walk ≡ Some walk.key
+is_inside walk ne = by_inside walk.inside walk.key ne
+
+-- what was put where nothing stood is the text of the partition
+pub text_anew : (kinds : Kinds) (key kept before after : List ℕ) → kept ≡ key → before ≡ [] → PutsText kinds key before after → IsTextOf kinds kept after
+text_anew kinds key kept before after same empty (text, is, put) =
+    let all : after ≡ text = put ∙ ap (λ (b : List ℕ). b ++ text) empty in
+    subst (λ (t : List ℕ). IsTextOf kinds kept t) (sym all) (subst (λ (k : List ℕ). IsTextOf kinds k text) (sym same) is)
 
 -- ---- the window
 
@@ -117,10 +123,10 @@ module _ (columns : Columns) where
   all_of file w c whole = c.is ∙ ap (λ r. w.bytes ++ r) (c.ended whole) ∙ append-nil w.bytes
 
   pub halts_end : (walk : Walk) → walk.inside ≡ false → IsFull walk.window → walk.window.bytes ≡ [] → (file : List ℕ) → Continues file walk.window
-      → Stops columns file (inside_of columns walk) walk.window.at [] None
+      → Stops columns file (inside_of walk) walk.window.at [] None
   halts_end walk outside full empty file c =
       let whole : walk.window.whole ≡ true = ⊎_elim (λ e. e) (λ (l : enough ≤ length walk.window.bytes). absurd (omega (arith, ap length empty))) full in
-      subst (λ (o : Option (List ℕ)). Stops columns file o walk.window.at [] None) (sym (is_outside columns walk outside))
+      subst (λ (o : Option (List ℕ)). Stops columns file o walk.window.at [] None) (sym (is_outside walk outside))
       (file_end_stops columns file walk.window.at (all_of file walk.window c whole ∙ empty))
 
   no_head_there : (file : List ℕ) (w : Unread) → Continues file w → IsFull w → NoHead columns w.bytes → NoHead columns (drop w.at file)
@@ -137,7 +143,7 @@ module _ (columns : Columns) where
       subst (λ (m : Met). StepIs columns walk walk' text text m) (sym is) (
         refl,
         λ file c.
-            subst (λ (o : Option (List ℕ)). Stops columns file o walk.window.at [] (Some (damage_at walk.window.at BadHead))) (sym (is_outside columns walk outside))
+            subst (λ (o : Option (List ℕ)). Stops columns file o walk.window.at [] (Some (damage_at walk.window.at BadHead))) (sym (is_outside walk outside))
             (bad_head_stops columns file walk.window.at (λ e. some_there walk.window.bytes c.rest some (sym c.is ∙ e))
             (no_head_there file walk.window c full no_head)),
       )
@@ -158,7 +164,7 @@ module _ (columns : Columns) where
       subst (λ (m : Met). StepIs columns walk walk' text text m) (sym (is ∙ ap (λ (m : ℕ). Damaged (damage_at (walk.window.at + m) BadRow)) size)) (
         refl,
         λ file c.
-            subst (λ (o : Option (List ℕ)). Stops columns file o walk.window.at [] (Some (damage_at (walk.window.at + length (head_bytes key)) BadRow))) (sym (is_outside columns walk outside))
+            subst (λ (o : Option (List ℕ)). Stops columns file o walk.window.at [] (Some (damage_at (walk.window.at + length (head_bytes key)) BadRow))) (sym (is_outside walk outside))
             (bad_fixed_stops columns file walk.window.at key (more ++ c.rest) string static (c.is ∙ ap (λ bs. bs ++ c.rest) e ∙ append_assoc (head_bytes key) more c.rest)
             (no_part_there file w key more (string_length columns.partition key string) e c full told)),
       )
@@ -169,8 +175,8 @@ module _ (columns : Columns) where
       subst (λ (m : Met). StepIs columns walk walk' text text m) (sym is) (
         refl,
         λ file c.
-            subst (λ (o : Option (List ℕ)). Stops columns file o walk.window.at [] (Some (damage_at walk.window.at BadRow))) (sym (is_inside columns walk within))
-            (bad_row_stops columns file walk.window.at (key_of columns walk) (no_row file c)),
+            subst (λ (o : Option (List ℕ)). Stops columns file o walk.window.at [] (Some (damage_at walk.window.at BadRow))) (sym (is_inside walk within))
+            (bad_row_stops columns file walk.window.at walk.key (no_row file c)),
       )
 
   pub few_rows : (w : Unread) → IsFull w → NoRow columns w.bytes × (length w.bytes < 66564) → (file : List ℕ) → Continues file w → NoRow columns (drop w.at file)
@@ -192,11 +198,11 @@ goes_on false ne = absurd (ne refl)
 
 module _ (columns : Columns) where
   -- a row
-  pub prints_row : (walk walk' : Walk) (text text' c value : List ℕ) → EachFits columns.partition (values_of walk.partition) → IsStringOf columns.clustering c
-      → text' ≡ text ++ entry_line columns (key_of columns walk ++ c, value) → Moves columns walk walk' ((key_of columns walk ++ c, value) ∷ []) → Shows columns 1 walk walk' text text'
-  prints_row walk walk' text text' c value fits string line moves =
-      let entry : Entry = (key_of columns walk ++ c, value) in
-      let row : is_row columns entry ≡ true = is_row_entry columns (values_of walk.partition) c value fits ∙ some_string columns.clustering c string in
+  pub prints_row : (walk walk' : Walk) (text text' c value : List ℕ) → IsTextOf columns.partition walk.key walk.text → IsStringOf columns.clustering c
+      → text' ≡ text ++ entry_line columns (walk.key ++ c, value) → Moves columns walk walk' ((walk.key ++ c, value) ∷ []) → Shows columns 1 walk walk' text text'
+  prints_row walk walk' text text' c value has string line moves =
+      let entry : Entry = (walk.key ++ c, value) in
+      let row : is_row columns entry ≡ true = is_row_behind columns walk.key walk.text c value has ∙ some_string columns.clustering c string in
       let one : row_count columns (entry ∷ []) ≡ 1 = ap (λ (b : Bool). (if b then 1 else 0) + 0) row in
       (entry ∷ [], one, line ∙ ap (λ t. text ++ t) (sym (append-nil (entry_line columns entry))), moves)
 
@@ -205,9 +211,9 @@ module _ (columns : Columns) where
   prints_none walk walk' text moves = ([], refl, sym (append-nil text), moves)
 
   -- the static value of a partition, where it has one
-  pub prints_fixed : (walk walk' : Walk) (text text' : List ℕ) (fixed : Option (List ℕ)) → EachFits columns.partition (values_of walk'.partition)
-      → text' ≡ text ++ entry_lines columns (fixed_entries (key_of columns walk') fixed) → Moves columns walk walk' (fixed_entries (key_of columns walk') fixed) → Shows columns 0 walk walk' text text'
-  prints_fixed walk walk' text text' fixed fits line moves = (fixed_entries (key_of columns walk') fixed, fixed_count columns (values_of walk'.partition) fixed fits, line, moves)
+  pub prints_fixed : (walk walk' : Walk) (text text' : List ℕ) (fixed : Option (List ℕ)) → IsTextOf columns.partition walk'.key walk'.text
+      → text' ≡ text ++ entry_lines columns (fixed_entries walk'.key fixed) → Moves columns walk walk' (fixed_entries walk'.key fixed) → Shows columns 0 walk walk' text text'
+  prints_fixed walk walk' text text' fixed has line moves = (fixed_entries walk'.key fixed, fixed_count columns walk'.key walk'.text fixed has, line, moves)
 
 -- ---- the static part behind a head
 

@@ -5,6 +5,7 @@ pub mod Standing
 pub mod Window
 pub mod Walk
 pub mod Printed
+pub mod Lines
 pub mod Input
 pub mod Listing
 pub mod FaultLine

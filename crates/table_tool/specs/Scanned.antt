@@ -34,7 +34,7 @@ module _ (columns : Columns) where
   -- the scan has come over these entries, and all of their text but what was pushed is held
   pub record Holding (files : Option Files) (scan : Scan) (pushed : List ℕ) (entries : List Entry) : Type 0 where
     pub walked : IfSome files (λ m. Continues (bytes_of m data_id) scan.walk.window
-        × Passes columns (bytes_of m data_id) None 0 entries (inside_of columns scan.walk) scan.walk.window.at)
+        × Passes columns (bytes_of m data_id) None 0 entries (inside_of scan.walk) scan.walk.window.at)
     pub text : pushed ++ scan.text ≡ entry_lines columns entries
     pub count : scan.rows ≡ row_count columns entries
 

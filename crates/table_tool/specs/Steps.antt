@@ -1,9 +1,8 @@
 -- What one step of a walk does. This project's own; only private contracts cite it.
 use Rattle.std.specs.Prelude.{◌≡◌, ◌⊎◌, ℕ, ◌<◌, ◌≤◌, true, List, [], ◌++◌, length, Option, Some, None, IsSome, if◌then◌else◌}
 use Rattle.key_types.specs.Columns.{Columns}
-use Rattle.key_types.specs.Kinds.{EachFits, values_of}
 use Rattle.key_types.specs.Table.{Entry}
-use Rattle.byte_comparable.specs.Encoding.{key_string}
+use Rattle.key_printing.specs.Texts.{IsTextOf}
 use Rattle.bti_nodes.specs.declared.damage.Damage.{Damage}
 use Rattle.data_file.specs.Listing.{IsFixed, fixed_bytes}
 use Rattle.data_file.specs.Reading.{NoFixed}
@@ -15,19 +14,15 @@ use Rattle.table_tool.specs.Printed.{entry_lines}
 use Rattle.table_tool.specs.Window.{Continues}
 use Rattle.table_tool.specs.Walk.{Passes, Stops}
 
+-- the string of the partition that the walk is in
+abbrev pub inside_of : Walk → Option (List ℕ)
+inside_of walk = if walk.inside then Some walk.key else None
+
 -- over a table with these columns
 module _ (columns : Columns) where
-  -- the string of the partition whose components the walk has
-  abbrev pub key_of : Walk → List ℕ
-  key_of walk = key_string columns.partition (values_of walk.partition)
-
-  -- the partition that the walk is in
-  abbrev pub inside_of : Walk → Option (List ℕ)
-  inside_of walk = if walk.inside then Some (key_of walk) else None
-
-  -- inside a partition the walk has its components
+  -- inside a partition the walk has the text of its components
   abbrev pub HasKey : Walk → Type 0
-  HasKey walk = walk.inside ≡ true → EachFits columns.partition (values_of walk.partition)
+  HasKey walk = walk.inside ≡ true → IsTextOf columns.partition walk.key walk.text
 
   -- over every file that the window is one of, the walk passes these entries, and the window is of the file still
   abbrev pub Moves : Walk → Walk → List Entry → Type 0

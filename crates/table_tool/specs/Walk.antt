@@ -35,10 +35,6 @@ pub data Walks (columns : Columns) : Option (List ℕ) → ℕ → List ℕ → 
   -- neither a row nor an end
   bad_row : (at : ℕ) (key bytes : List ℕ) → NoRow columns bytes → Walks columns (Some key) at bytes [] (Some (damage_at at BadRow))
 
--- the walk over the whole file gives these entries, and stops so
-abbrev pub WalksFile : Columns → List ℕ → List Entry → Option Damage → Type 0
-WalksFile columns file entries stop = Walks columns None 0 file entries stop
-
 -- ---- parts of a walk
 
 -- from one place of the file to another the walk passes exactly these entries

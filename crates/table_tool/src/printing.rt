@@ -1,102 +1,95 @@
 //! The text of rows and static values.
-ghost use Rattle.std.specs.Prelude.{◌≡◌, ◌≤◌, ◌++◌, length, OnOk, IfOk};
+ghost use Rattle.std.specs.Prelude.{◌≡◌, ◌≤◌, ◌++◌, [], List, ℕ, Some, codes, length, OnOk, IfOk};
 ghost use Rattle.std.specs.Option.{option_copied};
 ghost use Rattle.key_types.specs.Columns.{columns_of};
-ghost use Rattle.key_types.specs.Kinds.{EachFits, kinds_of, values_of};
-ghost use Rattle.byte_comparable.specs.Encoding.{key_string};
+ghost use Rattle.key_types.specs.Kinds.{kinds_of};
 ghost use Rattle.key_decode.specs.Strings.{IsStringOf};
+ghost use Rattle.key_text.specs.Written.{equals_literal};
+ghost use Rattle.key_printing.specs.Texts.{IsTextOf};
+ghost use Rattle.data_file.specs.Listing.{IsFixed};
 ghost use Rattle.table_tool.specs.Grouping.{AreEntries, IsBehind};
-ghost use Rattle.table_tool.specs.Printed.{count_line, entry_line, entry_lines, rows_text, static_by};
+ghost use Rattle.table_tool.specs.Lines.{EndsLine};
+ghost use Rattle.table_tool.specs.Printed.{count_line, entry_line, entry_lines, rows_text};
 ghost use Rattle.table_tool.specs.Standing.{fixed_entries};
 
 use crate::numbers::put_number;
 use crate::parts::{part, row_at};
 use crate::table::Rows;
-use key_decode::{DecodeError, decode_clustering, decode_partition};
-use key_text::{write_row, write_static};
-use key_types::{ByteList, NoMemory, Schema, ValueList};
+use key_printing::write_string;
+use key_text::write_equals;
+use key_types::{ByteList, NoMemory, Schema, ValueType};
 use std::alloc::Global;
 
-/// Want of memory, for which alone the string of a key isn't decoded.
-fn no_memory(_e: DecodeError) -> NoMemory
-    requires { _e ≡ DecodeError.NoMemory }
-{
-    NoMemory
-}
-
-/// The components of a partition's string.
-pub fn partition_of(alloc: Global, schema: &Schema, string: &[u8]) -> Result<ValueList, NoMemory>
-    requires { IsStringOf (kinds_of schema.now.partition) string.now }
-    ensures fits { IfOk result (λ values. EachFits (kinds_of schema.now.partition) (values_of values)) }
-    ensures string { IfOk result (λ values. string.now ≡ key_string (kinds_of schema.now.partition) (values_of values)) }
-{
-    match decode_partition(alloc, schema, string) {
-        Ok(values) => Ok(values),
-        Err(e) => Err(no_memory(e)),
-    }
-}
-
-/// The components of the string of a row within its partition.
-fn clustering_of(alloc: Global, schema: &Schema, string: &[u8]) -> Result<ValueList, NoMemory>
-    requires { IsStringOf (kinds_of schema.now.clustering) string.now }
-    ensures fits { IfOk result (λ values. EachFits (kinds_of schema.now.clustering) (values_of values)) }
-    ensures string { IfOk result (λ values. string.now ≡ key_string (kinds_of schema.now.clustering) (values_of values)) }
-{
-    match decode_clustering(alloc, schema, string) {
-        Ok(values) => Ok(values),
-        Err(e) => Err(no_memory(e)),
-    }
-}
-
-/// Appends the line of a row of the partition with these components.
-pub fn put_row(
+/// Ends the line of a row, which so far is the text of its partition's components.
+fn end_row(
     out: &mut ByteList,
     alloc: Global,
     schema: &Schema,
-    partition: &ValueList,
     clustering: &[u8],
     value: &[u8],
 ) -> Result<(), NoMemory>
-    requires partition { EachFits (kinds_of schema.now.partition) (values_of partition.now) }
-    requires clustering { IsStringOf (kinds_of schema.now.clustering) clustering.now }
-    ensures { OnOk result (out.new ≡ out.old ++ entry_line (columns_of schema.now) (key_string (kinds_of schema.now.partition) (values_of partition.now) ++ clustering.now, value.now)) }
+    requires { IsStringOf (kinds_of schema.now.clustering) clustering.now }
+    ensures { OnOk result (EndsLine (columns_of schema.now) clustering.now value.now out.old out.new) }
 {
-    let clustering = clustering_of(alloc, schema, clustering)?;
-    write_row(schema, partition, &clustering, value, out)?;
+    out.push(b' ')?;
+    write_string(alloc, &schema.clustering, clustering, out)?;
+    write_equals(schema.value, value, out)?;
     out.push(b'\n')
 }
 
-/// Appends the line of the static value of the partition with these components, in a table with a static type.
-fn put_static(
-    out: &mut ByteList,
-    schema: &Schema,
-    partition: &ValueList,
-    value: &[u8],
-) -> Result<(), NoMemory>
-    requires { EachFits (kinds_of schema.now.partition) (values_of partition.now) }
-    ensures { OnOk result (out.new ≡ out.old ++ static_by (columns_of schema.now) schema.now.static_value (values_of partition.now) value.now) }
+/// Ends the line of a static value of this type, which so far is the text of its partition's components.
+fn end_static_of(out: &mut ByteList, kind: ValueType, value: &[u8]) -> Result<(), NoMemory>
+    ensures { OnOk result (out.new ≡ out.old ++ codes " static" ++ equals_literal kind value.now ++ codes "\n") }
+{
+    out.extend(b" static")?;
+    write_equals(kind, value, out)?;
+    out.push(b'\n')
+}
+
+/// Ends the line of a static value of the table.
+fn end_static(out: &mut ByteList, schema: &Schema, value: &[u8]) -> Result<(), NoMemory>
+    requires { IsFixed schema.now.static_value (Some value.now) }
+    ensures { OnOk result (EndsLine (columns_of schema.now) [] value.now out.old out.new) }
 {
     match schema.static_value {
-        Some(kind) => {
-            write_static(schema, kind, partition, value, out)?;
-            out.push(b'\n')
-        }
+        Some(kind) => end_static_of(out, kind, value),
         None => Ok(()),
     }
 }
 
-/// Appends the line of the partition's static value, where it has one.
+/// Appends the line of a row of the partition with this text.
+pub fn put_row(
+    out: &mut ByteList,
+    alloc: Global,
+    schema: &Schema,
+    partition: &[u8],
+    clustering: &[u8],
+    value: &[u8],
+) -> Result<(), NoMemory>
+    requires { IsStringOf (kinds_of schema.now.clustering) clustering.now }
+    ensures { OnOk result ((key : List ℕ) → IsTextOf (kinds_of schema.now.partition) key partition.now
+        → out.new ≡ out.old ++ entry_line (columns_of schema.now) (key ++ clustering.now, value.now)) }
+{
+    out.extend(partition)?;
+    end_row(out, alloc, schema, clustering, value)
+}
+
+/// Appends the line of the static value of the partition with this text, where it has one.
 pub fn put_fixed(
     out: &mut ByteList,
     schema: &Schema,
-    partition: &ValueList,
+    partition: &[u8],
     fixed: Option<&[u8]>,
 ) -> Result<(), NoMemory>
-    requires { EachFits (kinds_of schema.now.partition) (values_of partition.now) }
-    ensures { OnOk result (out.new ≡ out.old ++ entry_lines (columns_of schema.now) (fixed_entries (key_string (kinds_of schema.now.partition) (values_of partition.now)) (option_copied fixed.entry))) }
+    requires { IsFixed schema.now.static_value (option_copied fixed) }
+    ensures { OnOk result ((key : List ℕ) → IsTextOf (kinds_of schema.now.partition) key partition.now
+        → out.new ≡ out.old ++ entry_lines (columns_of schema.now) (fixed_entries key (option_copied fixed.entry))) }
 {
     match fixed {
-        Some(value) => put_static(out, schema, partition, value),
+        Some(value) => {
+            out.extend(partition)?;
+            end_static(out, schema, value)
+        }
         None => Ok(()),
     }
 }
@@ -114,11 +107,11 @@ fn put_entry(
     requires behind { IsBehind (columns_of schema.now) clustering.now value.now }
     ensures { OnOk result (out.new ≡ out.old ++ entry_line (columns_of schema.now) (partition.now ++ clustering.now, value.now)) }
 {
-    let partition = partition_of(alloc, schema, partition)?;
+    write_string(alloc, &schema.partition, partition, out)?;
     if clustering.is_empty() {
-        put_static(out, schema, &partition, value)
+        end_static(out, schema, value)
     } else {
-        put_row(out, alloc, schema, &partition, clustering, value)
+        end_row(out, alloc, schema, clustering, value)
     }
 }
 

@@ -6,11 +6,12 @@ ghost use Rattle.data_file.specs.Answers.{damage_at};
 ghost use Rattle.table_tool.specs.Window.{IsFull};
 ghost use Rattle.table_tool.specs.Steps.{HasKey, IsFixedBehind, NoFixedBehind, StepIs};
 
-use crate::printing::{partition_of, put_fixed, put_row};
+use crate::printing::{put_fixed, put_row};
 use crate::window::Window;
 use bti_nodes::{Cause, Damage};
 use data_file::{ParseRow, fixed_in, head_in, row_in};
-use key_types::{ByteList, NoMemory, Schema, ValueList};
+use key_printing::write_string;
+use key_types::{ByteList, KeyBytes, NoMemory, Schema};
 use outside::Part;
 use std::alloc::Global;
 
@@ -27,11 +28,12 @@ pub enum Met {
     Damaged(Damage),
 }
 
-/// Where a walk stands: the bytes before it, and the components of the partition that it is in or was in last.
+/// Where a walk stands: the bytes before it, and the string of the partition that it is in or was in last, with the text of its components.
 #[derive(Drop)]
 pub struct Walk {
     pub window: Window,
-    pub partition: ValueList,
+    pub key: KeyBytes,
+    pub text: ByteList,
     pub inside: bool,
 }
 
@@ -76,7 +78,8 @@ impl Walk {
     {
         Walk {
             window: Window::new(alloc, limit),
-            partition: ValueList::End,
+            key: KeyBytes::new(alloc),
+            text: ByteList::new(alloc),
             inside: false,
         }
     }
@@ -99,10 +102,12 @@ impl Walk {
         let Some((fixed, length)) = fixed_behind(schema, bytes, head) else {
             return Ok(damaged(self.window.at() + head as u64, Cause::BadRow));
         };
-        let partition = partition_of(alloc, schema, key)?;
-        put_fixed(out, schema, &partition, fixed)?;
+        self.key.truncate(0);
+        self.key.extend(key)?;
+        self.text.truncate(0);
+        write_string(alloc, &schema.partition, key, &mut self.text)?;
+        put_fixed(out, schema, self.text.as_slice(), fixed)?;
         self.window.pass(head + length);
-        self.partition = partition;
         self.inside = true;
         Ok(Met::Border)
     }
@@ -121,7 +126,7 @@ impl Walk {
                     out,
                     alloc,
                     schema,
-                    &self.partition,
+                    self.text.as_slice(),
                     row.clustering,
                     row.value,
                 )?;

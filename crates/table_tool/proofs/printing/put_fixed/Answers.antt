@@ -1,9 +1,13 @@
 use Rattle.key_types.specs.Columns.{columns_of}
-use Rattle.key_types.specs.Kinds.{values_of}
-use Rattle.table_tool.proofs.PrintedLemmas.{fixed_written, ok_so}
+use Rattle.table_tool.proofs.PrintedLemmas.{fixed_ended, ok_so}
 use Rattle.table_tool.proofs.printing.put_fixed.Goals as goal
 
-pub returns-in-Some : goal.returns-in-Some
-returns-in-Some c =
+pub end_static-requires : goal.end_static-requires
+end_static-requires c = rw c.in-Some.is at c.requires
+
+pub returns-in_ok-extend-in-Some : goal.returns-in_ok-extend-in-Some
+returns-in_ok-extend-in-Some c =
     rw c.in-Some.is
-    (ok_so c.put_static.result _ _ (fixed_written (columns_of c.args.schema.now) (values_of c.args.partition.now) c.in-Some.value.now c.args.out.now c.put_static.new.out c.requires) c.put_static.ensures)
+    (ok_so c.end_static.result _ _
+    (λ ends key is. fixed_ended (columns_of c.args.schema.now) key c.args.partition.now c.in-Some.value.now c.args.out.now c.extend.new.self c.end_static.new.out is c.in_ok-extend-in-Some.ensures.ok ends)
+    c.end_static.ensures)

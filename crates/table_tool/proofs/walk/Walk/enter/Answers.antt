@@ -1,4 +1,4 @@
-use Rattle.std.proofs.Common.{◌≡◌, ◌∙◌, ◌+◌, refl, true, Some, ap, sym, subst, List, ℕ, arith, length, drop, eqb-true, rules}
+use Rattle.std.proofs.Common.{◌≡◌, ◌∙◌, ◌+◌, ◌++◌, refl, true, Some, ap, sym, subst, List, ℕ, arith, length, drop, eqb-true, rules}
 use Rattle.std.proofs.lemmas.Bool.{eqb-false}
 use Rattle.std.proofs.lemmas.List.{nil_from_length}
 use Rattle.std.specs.Option.{option_copied}
@@ -7,10 +7,11 @@ use Rattle.data_file.specs.Answers.{damage_at}
 use Rattle.data_file.specs.Listing.{head_bytes}
 use Rattle.data_file.specs.Reading.{BeginsHead, NoHead}
 use Rattle.key_types.specs.Columns.{columns_of}
+use Rattle.key_printing.specs.Texts.{IsTextOf}
 use Rattle.table_tool.specs.declared.walk.Met.TheVariants.{Damaged}
 use Rattle.table_tool.specs.Standing.{fixed_entries}
 use Rattle.table_tool.specs.Steps.{IsFixedBehind, NoFixedBehind, inside_of}
-use Rattle.table_tool.proofs.StepLemmas.{Moving, halts_end, halts_fixed, halts_head, is_outside, moves_head, prints_fixed, room_there}
+use Rattle.table_tool.proofs.StepLemmas.{Moving, halts_end, halts_fixed, halts_head, is_outside, moves_head, prints_fixed, room_there, text_anew}
 use Rattle.table_tool.proofs.walk.Walk.enter.Goals as goal
 
 pub returns-then-is_empty-clause-step : goal.returns-then-is_empty-clause-step
@@ -23,7 +24,7 @@ returns-then-is_empty-clause-step c = (
 pub returns-in_default-clause-step : goal.returns-in_default-clause-step
 returns-in_default-clause-step c =
     let columns = columns_of c.args.schema.now in
-    halts_head columns c.args.self.now _ c.args.out.now c.damaged.result c.requires.outside c.requires.full
+    halts_head columns c.args.self.now c.args.self.now c.args.out.now c.damaged.result c.requires.outside c.requires.full
     (λ empty. eqb-false (length c.unread-bytes.result.now) 0 (sym c.is_empty.ensures ∙ c.if-is_empty.false) (ap length (c.unread-bytes.ensures.bytes ∙ empty)))
     (subst (λ (b : List ℕ). NoHead columns b) c.unread-bytes.ensures.bytes (c.head_in.ensures.none (search rules))) (c.damaged.ensures ∙ ap (λ at. Damaged (damage_at at BadHead)) c.at.ensures)
 
@@ -33,7 +34,7 @@ returns-in_default-fixed_behind-clause-step c =
     let head = 2 + length c.in-Some.key.now in
     let begins : BeginsHead columns c.unread-bytes.result.now c.in-Some.key.now = search rules in
     let no_part : NoFixedBehind columns (drop head c.unread-bytes.result.now) = c.fixed_behind.ensures.none (search rules) in
-    halts_fixed columns c.args.self.now _ c.args.out.now c.in-Some.key.now c.damaged-in_default-fixed_behind.result head c.requires.outside c.requires.full
+    halts_fixed columns c.args.self.now c.args.self.now c.args.out.now c.in-Some.key.now c.damaged-in_default-fixed_behind.result head c.requires.outside c.requires.full
     (subst (λ (b : List ℕ). BeginsHead columns b c.in-Some.key.now) c.unread-bytes.ensures.bytes begins) (omega arith)
     (subst (λ (b : List ℕ). NoFixedBehind columns (drop head b)) c.unread-bytes.ensures.bytes no_part)
     (c.damaged-in_default-fixed_behind.ensures ∙ ap (λ (at : ℕ). Damaged (damage_at (at + head) BadRow)) c.at-in_default-fixed_behind.ensures)
@@ -49,11 +50,20 @@ returns-clause-step c =
     let begins : BeginsHead columns c.unread-bytes.result.now key = search rules in
     let part : IsFixedBehind columns (drop head c.unread-bytes.result.now) fixed count = search rules in
     let long : head ≡ length (head_bytes key) = omega arith in
-    let moves = moves_head columns walk.window c.pass.new.self (head + count) (inside_of columns walk) key fixed count
-    (room_there walk.window _ c.unread-bytes.ensures.bytes c.unread-bytes.ensures.inside) (is_outside columns walk c.requires.outside) c.pass.ensures (omega arith)
+    let moves = moves_head columns walk.window c.pass.new.self (head + count) (inside_of walk) key fixed count
+    (room_there walk.window _ c.unread-bytes.ensures.bytes c.unread-bytes.ensures.inside) (is_outside walk c.requires.outside) c.pass.ensures (omega arith)
     (subst (λ (b : List ℕ). BeginsHead columns b key) c.unread-bytes.ensures.bytes begins)
     (subst (λ (b : List ℕ). IsFixedBehind columns (drop (length (head_bytes key)) b) fixed count) c.unread-bytes.ensures.bytes
     (subst (λ (n : ℕ). IsFixedBehind columns (drop n c.unread-bytes.result.now) fixed count) long part)) in
-    prints_fixed columns walk (record { window = c.pass.new.self; partition = c.in_ok-partition.partition; inside = true }) c.args.out.now c.put_fixed.new.out fixed c.in_ok-partition.ensures.fits
-    c.in_ok-put_fixed.ensures
-    (subst (λ (k : List ℕ). Moving columns walk.window c.pass.new.self (inside_of columns walk) (Some k) (fixed_entries k fixed)) c.in_ok-partition.ensures.string moves)
+    let same : c.extend.new.self ≡ key = c.in_ok-extend.ensures.ok ∙ ap (λ (l : List ℕ). l ++ key) c.truncate.ensures in
+    let has = text_anew columns.partition key c.extend.new.self c.truncate-2.new.self c.write_string.new.out same c.truncate-2.ensures c.in_ok-write_string.ensures.ok in
+    prints_fixed columns walk (record { window = c.pass.new.self; key = c.extend.new.self; text = c.write_string.new.out; inside = true }) c.args.out.now c.put_fixed.new.out fixed has
+    (c.in_ok-put_fixed.ensures c.extend.new.self (subst (IsTextOf columns.partition c.extend.new.self) (sym c.as_slice.ensures) has))
+    (subst (λ (k : List ℕ). Moving columns walk.window c.pass.new.self (inside_of walk) (Some k) (fixed_entries k fixed)) (sym same) moves)
+
+pub returns-clause-key : goal.returns-clause-key
+returns-clause-key c =
+    let columns = columns_of c.args.schema.now in
+    let key = c.in-Some.key.now in
+    let same : c.extend.new.self ≡ key = c.in_ok-extend.ensures.ok ∙ ap (λ (l : List ℕ). l ++ key) c.truncate.ensures in
+    λ inside. text_anew columns.partition key c.extend.new.self c.truncate-2.new.self c.write_string.new.out same c.truncate-2.ensures c.in_ok-write_string.ensures.ok
