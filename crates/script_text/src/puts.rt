@@ -15,8 +15,11 @@ use key_text::{read_closed_blob, read_closed_text};
 use key_types::{KeyBytes, Schema, TypeList, ValueBytes, ValueType};
 use std::alloc::Global;
 
-/// The room, in bytes, that a string is given at first: a partition's and that of a row behind it seldom need more.
-const ROOM: usize = 40;
+/// The room, in bytes, that the string of a partition is given at first: with that of a row behind it, it seldom needs more.
+const PARTITION_ROOM: usize = 40;
+
+/// The room, in bytes, that the string of a row within its partition is given at first.
+const ROW_ROOM: usize = 24;
 
 /// What a line puts.
 #[derive(Drop)]
@@ -29,16 +32,17 @@ pub struct PutLine {
     pub value: ValueBytes,
 }
 
-/// The string of components in parentheses.
+/// The string of components in parentheses, with this room at first.
 fn read_string<'a>(
     alloc: Global,
+    room: usize,
     kinds: &TypeList,
     outside: &mut Option<usize>,
     bytes: &'a [u8],
 ) -> Result<(KeyBytes, &'a [u8]), Stop>
     ensures { GivesOne (λ values x. x.0 ≡ key_string (kinds_of kinds.now) values) (λ x. x.1.now) outside.new result (marked_list (kinds_of kinds.now) outside.old bytes.now) }
 {
-    let mut string = KeyBytes::from_vec(Vec::with_capacity(alloc, ROOM)?);
+    let mut string = KeyBytes::from_vec(Vec::with_capacity(alloc, room)?);
     let rest = spell_list(alloc, kinds, outside, bytes, &mut string)?;
     Ok((string, rest))
 }
@@ -70,7 +74,7 @@ fn read_row<'a>(
 ) -> Result<(Option<KeyBytes>, ValueBytes, &'a [u8]), Stop>
     ensures { GivesOne (λ rest x. IsRestOf (columns_of schema.now) rest x.0 x.1) (λ x. x.2.now) outside.new result (row_at (columns_of schema.now) outside.old bytes.now) }
 {
-    let (clustering, rest) = read_string(alloc, &schema.clustering, outside, bytes)?;
+    let (clustering, rest) = read_string(alloc, ROW_ROOM, &schema.clustering, outside, bytes)?;
     let (value, rest) = read_set(alloc, schema.value, rest)?;
     Ok((Some(clustering), value, rest))
 }
@@ -114,7 +118,7 @@ fn read_put<'a>(
     ensures { GivesOne (λ put x. IsPutOf (columns_of schema.now) put x.0) (λ x. x.1.now) outside.new result (put_at (columns_of schema.now) outside.old bytes.now) }
 {
     let (_, rest) = read_word(b"put", bytes)?;
-    let (partition, rest) = read_string(alloc, &schema.partition, outside, rest)?;
+    let (partition, rest) = read_string(alloc, PARTITION_ROOM, &schema.partition, outside, rest)?;
     let (clustering, value, rest) = read_rest(alloc, schema, outside, rest)?;
     Ok((
         PutLine {

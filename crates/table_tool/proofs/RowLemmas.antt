@@ -22,7 +22,7 @@ use Rattle.script_text.specs.Laws.{ArePuts, IsAccepted, IsKey, IsPut, IsRowPut, 
 use Rattle.script_text.proofs.Accepted.{accepted_script}
 use Rattle.table_tool.specs.Entries.{clustering_in}
 use Rattle.table_tool.specs.Grouping.{AreEntries, IsBehind, IsEntry}
-use Rattle.table_tool.specs.Loading.{IsSpelled}
+use Rattle.table_tool.specs.Input.{IsSpelled}
 use Rattle.table_tool.specs.Rows.{rows_after, rows_of}
 use Rattle.table_tool.proofs.MapLemmas.{rows_after_is}
 use Rattle.table_tool.proofs.PartsLemmas.{parted, some_string}

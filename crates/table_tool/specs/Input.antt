@@ -1,8 +1,15 @@
 -- What is read of a source. This project's own.
 use Rattle.std.specs.Prelude.{◌≡◌, ℕ, ◌≤◌, ◌<◌, List, ◌++◌, length, Option, Result, Ok, Err}
+use Rattle.key_types.specs.Columns.{Columns}
 use Rattle.outside.specs.Told.{WhereTold}
+use Rattle.script_text.specs.declared.script.Script.{Script}
+use Rattle.script_text.specs.declared.script.ScriptError.{ScriptError}
+use Rattle.script_text.specs.declared.script.ScriptError.TheVariants as script_error
+use Rattle.script_text.specs.Script.{script_of}
 use Rattle.table_tool.specs.declared.input.InputError.{InputError}
 use Rattle.table_tool.specs.declared.input.InputError.TheVariants.{Fault, TooLarge, NoMemory}
+use Rattle.table_tool.specs.declared.status.Status.{Status}
+use Rattle.table_tool.specs.declared.status.Status.TheVariants as status
 
 -- all bytes of the source, where they are at most 67,108,864; TooLarge only where there are more
 abbrev pub ReadIs : Result (List ℕ) InputError → List ℕ → Type 0
@@ -14,3 +21,24 @@ ReadIs (Err NoMemory) bytes = Unit {0}
 -- these bytes were taken so far
 abbrev pub Taken : Option (List ℕ) → Option (List ℕ) → List ℕ → Type 0
 Taken before now all = WhereTold before now (λ xs ys. xs ≡ all ++ ys)
+
+-- the script is one that some bytes spell under these columns
+abbrev pub IsSpelled : Columns → Script → Type 0
+IsSpelled columns script = (bytes : List ℕ) × (script_of columns bytes ≡ Ok script)
+
+-- the script that is expected, unless the source failed or memory ran out
+abbrev pub Takes : Result Script Status → Result Script ScriptError → Type 0
+Takes (Ok script) expected = expected ≡ Ok script
+Takes (Err (status.BadLine line cause)) expected = expected ≡ Err (script_error.BadLine line cause)
+Takes (Err status.TooLarge) expected = expected ≡ Err script_error.TooLarge
+Takes (Err status.SourceFault) expected = Unit {0}
+Takes (Err status.NoMemory) expected = Unit {0}
+Takes (Err result) expected = ⊥
+
+-- the statuses with which no script is taken
+abbrev pub EndsEarly : Status → Type 0
+EndsEarly (status.BadLine line cause) = Unit {0}
+EndsEarly status.SourceFault = Unit {0}
+EndsEarly status.TooLarge = Unit {0}
+EndsEarly status.NoMemory = Unit {0}
+EndsEarly _ = ⊥

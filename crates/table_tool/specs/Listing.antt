@@ -23,21 +23,8 @@ listing columns bytes = listing_of columns (script_of columns bytes)
 
 -- ---- how the parts of `list` answer
 
--- what is expected, unless memory ran out
-abbrev pub Gives : Result (List ℕ) Status → Result (List ℕ) Status → Type 0
-Gives (Err status.NoMemory) expected = Unit {0}
-Gives result expected = expected ≡ result
-
--- the same, unless the source failed
+-- what is expected, unless the source failed or memory ran out
 abbrev pub GivesOrFault : Result (List ℕ) Status → Result (List ℕ) Status → Type 0
 GivesOrFault (Err status.SourceFault) expected = Unit {0}
 GivesOrFault (Err status.NoMemory) expected = Unit {0}
 GivesOrFault result expected = expected ≡ result
-
--- the statuses that end `list` before it prints
-abbrev pub EndsEarly : Status → Type 0
-EndsEarly (status.BadLine line cause) = Unit {0}
-EndsEarly status.SourceFault = Unit {0}
-EndsEarly status.TooLarge = Unit {0}
-EndsEarly status.NoMemory = Unit {0}
-EndsEarly _ = ⊥

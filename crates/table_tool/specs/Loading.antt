@@ -164,19 +164,6 @@ Flushes columns files files' result bytes =
     (λ _. new ≡ map.insert (map.insert old data_id (bytes_of old data_id ++ bytes)) schema_id (bytes_of old schema_id ++ schema_text columns))
     (λ _. Reaches columns bytes old new))
 
--- the script is one that some bytes spell under these columns
-abbrev pub IsSpelled : Columns → Script → Type 0
-IsSpelled columns script = (bytes : List ℕ) × (script_of columns bytes ≡ Ok script)
-
--- the script that is expected, unless the source failed or memory ran out
-abbrev pub Takes : Result Script Status → Result Script ScriptError → Type 0
-Takes (Ok script) expected = expected ≡ Ok script
-Takes (Err (status.BadLine line cause)) expected = expected ≡ Err (script_error.BadLine line cause)
-Takes (Err status.TooLarge) expected = expected ≡ Err script_error.TooLarge
-Takes (Err status.SourceFault) expected = Unit {0}
-Takes (Err status.NoMemory) expected = Unit {0}
-Takes (Err result) expected = ⊥
-
 -- the statuses that end `load` before its line is printed
 abbrev pub StopsLoad : Status → Type 0
 StopsLoad status.Ok = ⊥

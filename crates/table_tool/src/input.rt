@@ -1,10 +1,14 @@
-//! The whole input.
-ghost use Rattle.std.specs.Prelude.{◌≡◌, ◌<◌, ◌≤◌, length, IfSome, Err};
+//! The whole input, and its script.
+ghost use Rattle.std.specs.Prelude.{◌≡◌, ◌<◌, ◌≤◌, length, IfOk, IfErr, IfSome, Err};
 ghost use Rattle.outside.specs.Causes.{Rose};
-ghost use Rattle.table_tool.specs.Input.{ReadIs};
+ghost use Rattle.key_types.specs.Columns.{columns_of};
+ghost use Rattle.script_text.specs.Script.{script_of};
+ghost use Rattle.table_tool.specs.Input.{EndsEarly, IsSpelled, ReadIs, Takes};
 
-use key_types::{ByteList, NoMemory};
+use crate::status::Status;
+use key_types::{ByteList, NoMemory, Schema};
 use outside::{Failed, Source};
+use script_text::{Script, ScriptError, read_script};
 use std::alloc::Global;
 
 /// Why an input isn't read.
@@ -49,5 +53,30 @@ pub fn read_all<S: Source>(alloc: Global, source: &mut S) -> Result<ByteList, In
         if all.len() > MOST {
             return Err(InputError::TooLarge);
         }
+    }
+}
+
+/// The script of the source's bytes, or the status of its refusal.
+pub fn take_script<S: Source>(
+    alloc: Global,
+    schema: &Schema,
+    source: &mut S,
+) -> Result<Script, Status>
+    ensures told { IfSome (S.left source.old) (λ bytes. Takes result (script_of (columns_of schema.now) bytes)) }
+    ensures spelled { IfOk result (IsSpelled (columns_of schema.now)) }
+    ensures early { IfErr result EndsEarly }
+    ensures later { S.faults source.old ≤ S.faults source.new }
+    ensures fault { result ≡ Err Status.SourceFault → Rose (S.faults source.old) (S.faults source.new) }
+{
+    match read_all(alloc, source) {
+        Ok(bytes) => match read_script(alloc, schema, 1, bytes.as_slice()) {
+            Ok(script) => Ok(script),
+            Err(ScriptError::BadLine(line, cause)) => Err(Status::BadLine(line, cause)),
+            Err(ScriptError::TooLarge) => Err(Status::TooLarge),
+            Err(ScriptError::NoMemory) => Err(Status::NoMemory),
+        },
+        Err(InputError::Fault) => Err(Status::SourceFault),
+        Err(InputError::TooLarge) => Err(Status::TooLarge),
+        Err(InputError::NoMemory) => Err(Status::NoMemory),
     }
 }

@@ -2,16 +2,16 @@
 ghost use Rattle.std.specs.Prelude.{◌≡◌, ◌≤◌, length, IfOk, IfErr, IfSome, Err, IsTrue, MatchResult, Ok};
 ghost use Rattle.outside.specs.Causes.{Rose};
 ghost use Rattle.outside.specs.Told.{WhereTold};
-ghost use Rattle.script_text.specs.Script.{script_of, puts_of};
+ghost use Rattle.script_text.specs.Script.{puts_of};
 ghost use Rattle.key_types.specs.Columns.{columns_of};
-ghost use Rattle.table_tool.specs.Listing.{EndsEarly};
 ghost use Rattle.table_tool.specs.Outcome.{Refuses};
 ghost use Rattle.table_tool.specs.Standing.{AreColumns};
-ghost use Rattle.table_tool.specs.Loading.{ok_line, one_there, loading, Changes, Loaded, LoadEnds, Loads, IsExists, IsSpelled, LeavesStore, NoneThere, StopsLoad, Takes};
+ghost use Rattle.table_tool.specs.Input.{IsSpelled};
+ghost use Rattle.table_tool.specs.Loading.{ok_line, one_there, loading, Changes, Loaded, LoadEnds, Loads, IsExists, LeavesStore, NoneThere, StopsLoad};
 
 use crate::files::one_there;
 use crate::flush::flush;
-use crate::input::{InputError, read_all};
+use crate::input::take_script;
 use crate::numbers::put_number;
 use crate::saying::{print, refuse};
 use crate::status::Status;
@@ -19,7 +19,7 @@ use crate::table::rows_put;
 use bti_nodes::PackError;
 use key_types::{ByteList, NoMemory, Schema};
 use outside::{Failed, Sink, Source, Store};
-use script_text::{Script, ScriptError, read_script};
+use script_text::Script;
 use std::alloc::Global;
 
 /// The line of so many puts, rows and partitions.
@@ -32,27 +32,6 @@ fn ok_line(alloc: Global, puts: u64, rows: u64, partitions: u64) -> Result<ByteL
     put_number(&mut line, b" partitions ", partitions)?;
     line.push(b'\n')?;
     Ok(line)
-}
-
-/// The script of the source.
-fn take_script<S: Source>(alloc: Global, schema: &Schema, source: &mut S) -> Result<Script, Status>
-    ensures told { IfSome (S.left source.old) (λ bytes. Takes result (script_of (columns_of schema.now) bytes)) }
-    ensures spelled { IfOk result (IsSpelled (columns_of schema.now)) }
-    ensures early { IfErr result EndsEarly }
-    ensures later { S.faults source.old ≤ S.faults source.new }
-    ensures fault { result ≡ Err Status.SourceFault → Rose (S.faults source.old) (S.faults source.new) }
-{
-    match read_all(alloc, source) {
-        Ok(bytes) => match read_script(alloc, schema, 1, bytes.as_slice()) {
-            Ok(script) => Ok(script),
-            Err(ScriptError::BadLine(line, cause)) => Err(Status::BadLine(line, cause)),
-            Err(ScriptError::TooLarge) => Err(Status::TooLarge),
-            Err(ScriptError::NoMemory) => Err(Status::NoMemory),
-        },
-        Err(InputError::Fault) => Err(Status::SourceFault),
-        Err(InputError::TooLarge) => Err(Status::TooLarge),
-        Err(InputError::NoMemory) => Err(Status::NoMemory),
-    }
 }
 
 /// Writes the files of the script's puts, and gives their line.
