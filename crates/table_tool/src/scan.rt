@@ -68,7 +68,7 @@ impl Scan {
         ensures later { K.faults store.old ≤ K.faults store.new }
         ensures fault { result ≡ Err ReadError.StoreFault → Rose (K.faults store.old) (K.faults store.new) }
     {
-        self.walk.window.fill(alloc, store, DATA)?;
+        self.walk.window.fill(store, DATA)?;
         match self.walk.step(alloc, schema, &mut self.text)? {
             Met::Row => {
                 self.rows += 1;

@@ -48,6 +48,8 @@ impl From<Failed> for ReadError {
 #[derive(Drop)]
 pub struct Window {
     bytes: ByteList,
+    /// Bytes that were let go, whose room serves the next reading ahead.
+    spare: ByteList,
     used: usize,
     at: u64,
     limit: u64,
@@ -73,6 +75,7 @@ impl Window {
     {
         Window {
             bytes: ByteList::new(alloc),
+            spare: ByteList::new(alloc),
             used: 0,
             at: 0,
             limit,
@@ -108,12 +111,13 @@ impl Window {
     }
 
     /// Lets the used bytes go.
-    fn compact(&mut self, alloc: Global) -> Result<(), NoMemory>
+    fn compact(&mut self) -> Result<(), NoMemory>
         ensures { self.new ≡ self.old }
     {
-        let mut bytes = ByteList::new(alloc);
-        bytes.extend(self.unread())?;
-        self.bytes = bytes;
+        let (_, unread) = self.bytes.as_slice().split_at(self.used);
+        self.spare.truncate(0);
+        self.spare.extend(unread)?;
+        std::mem::swap(&mut self.bytes, &mut self.spare);
         self.used = 0;
         Ok(())
     }
@@ -147,12 +151,7 @@ impl Window {
 
     /// Reads the file ahead page by page, until there is enough of it or it ends.
     #[inline(never)]
-    fn read_ahead<K: Store>(
-        &mut self,
-        alloc: Global,
-        store: &mut K,
-        file: FileId,
-    ) -> Result<(), ReadError>
+    fn read_ahead<K: Store>(&mut self, store: &mut K, file: FileId) -> Result<(), ReadError>
         ensures told { IfSome (K.files store.old) (λ m. Continues (bytes_of m file) self.old → IfOk result (λ _. Continues (bytes_of m file) self.new)) }
         ensures full { IfOk result (λ _. IsFull self.new) }
         ensures place { self.new.at ≡ self.old.at }
@@ -161,7 +160,7 @@ impl Window {
         ensures later { K.faults store.old ≤ K.faults store.new }
         ensures fault { result ≡ Err ReadError.StoreFault → Rose (K.faults store.old) (K.faults store.new) }
     {
-        self.compact(alloc)?;
+        self.compact()?;
         let mut page = [0u8; PAGE];
         'pages: loop {
             if !self.read_page(store, file, &mut page)? || self.unread().len() >= AHEAD {
@@ -173,12 +172,7 @@ impl Window {
     /// Reads the file ahead where the longest row isn't among the unused bytes and they don't end it.
     ///
     /// It is asked before each row, so the page stands in a function of its own: an array is paid for at entry.
-    pub fn fill<K: Store>(
-        &mut self,
-        alloc: Global,
-        store: &mut K,
-        file: FileId,
-    ) -> Result<(), ReadError>
+    pub fn fill<K: Store>(&mut self, store: &mut K, file: FileId) -> Result<(), ReadError>
         ensures told { IfSome (K.files store.old) (λ m. Continues (bytes_of m file) self.old → IfOk result (λ _. Continues (bytes_of m file) self.new)) }
         ensures full { IfOk result (λ _. IsFull self.new) }
         ensures place { self.new.at ≡ self.old.at }
@@ -190,6 +184,6 @@ impl Window {
         if self.whole || self.unread().len() >= ENOUGH {
             return Ok(());
         }
-        self.read_ahead(alloc, store, file)
+        self.read_ahead(store, file)
     }
 }
