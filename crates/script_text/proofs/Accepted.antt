@@ -9,7 +9,7 @@ use Rattle.key_types.specs.declared.schema.ValueType.TheVariants.{Text, Blob}
 use Rattle.key_types.specs.Kinds.{Kinds, Val, number, bytes, truth, values, Vals, Fits, EachFits}
 use Rattle.byte_comparable.specs.Encoding.{key_string}
 use Rattle.key_types.specs.Columns.{Columns, IsValueOf}
-use Rattle.script_text.specs.declared.script.Put.{Put}
+use Rattle.script_text.specs.Puts.{Put}
 use Rattle.script_text.specs.declared.script.Script.{Script}
 use Rattle.script_text.specs.declared.script.LineCause.{LineCause}
 use Rattle.script_text.specs.declared.script.LineCause.TheVariants.{NotUtf8, KeyTooLong, ValueTooLong}

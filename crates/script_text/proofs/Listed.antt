@@ -1,7 +1,7 @@
 -- Puts that were read, and the rest of them.
 use Rattle.std.proofs.Common.{◌≡◌, List, [], ◌++◌, Option, Some, None, Result, Ok, Err, refl}
 use Rattle.std.proofs.lemmas.List.{append_assoc, append-nil}
-use Rattle.script_text.specs.declared.script.Put.{Put}
+use Rattle.script_text.specs.Puts.{Put}
 use Rattle.script_text.specs.declared.script.ScriptError.{ScriptError}
 use Rattle.script_text.specs.Script.{in_front, with_rest}
 

@@ -1,10 +1,12 @@
 -- What comes of a line of UTF-8 is what comes of what it says.
-use Rattle.std.proofs.Common.{◌≡◌, ◌≤◌, ℕ, true, List, [], ◌∷◌, length, arith, Option, Some, None, Result, Ok, Err, refl, sym, ◌∙◌, ap}
+use Rattle.std.proofs.Common.{◌≡◌, ◌≤◌, ℕ, true, List, [], ◌∷◌, length, take, drop, arith, Option, Some, None, Result, Ok, Err, refl, sym, ◌∙◌, ap}
 use Rattle.std.specs.Prelude.{if◌then◌else◌}
+use Rattle.std.proofs.Math.Seq.{drop-append_seam, take-append_seam}
+use Rattle.byte_comparable.specs.Encoding.{key_string}
 use Rattle.std.specs.Str.{is_utf8}
 use Rattle.key_types.specs.Columns.{Columns}
 use Rattle.key_types.specs.Kinds.{Vals}
-use Rattle.script_text.specs.declared.script.Put.{Put}
+use Rattle.script_text.specs.Puts.{Put}
 use Rattle.script_text.specs.declared.script.LineCause.{LineCause}
 use Rattle.script_text.specs.declared.script.LineCause.TheVariants.{NotUtf8}
 use Rattle.script_text.specs.declared.script.ScriptError.{ScriptError}
@@ -14,7 +16,7 @@ use Rattle.grammar.specs.Reading.{without_spaces, all_of}
 use Rattle.key_text.specs.Marking.{Marked}
 use Rattle.script_text.specs.Reading.{line_of, put_at, whole_put}
 use Rattle.script_text.specs.declared.puts.PutLine.{PutLine}
-use Rattle.script_text.specs.Parts.{IsPutOf, put_with, Sees, short_row, string_within}
+use Rattle.script_text.specs.Parts.{IsPutOf, put_with, Sees, string_within}
 use Rattle.script_text.specs.Script.{◌>>=◌, row_key, bytes_in, short_key, short_value, put_of, some_put, put_on, at_line, Answers}
 
 -- bytes are left behind a put
@@ -22,7 +24,7 @@ pub whole_left : (s : Columns) (line : List ℕ) (x : Marked PutText) (rest : Li
 whole_left s line x [] h l = absurd (omega arith)
 whole_left s line x (b ∷ bs) h l = ap all_of h
 
--- the put of a string of a partition, what came of that of a row, and a value
+-- the put of the string of a partition, what came of that of a row, and a value
 abbrev with_parts : ℕ → List ℕ → Result (List ℕ) LineCause → List ℕ → Result Put LineCause
 with_parts line string row bytes = do
   partition ← short_key string
@@ -30,16 +32,19 @@ with_parts line string row bytes = do
   value ← short_value bytes
   Ok (record { line = line; partition = partition; clustering = clustering; value = value })
 
-row_same : (s : Columns) (cs : Option Vals) → row_key s.clustering cs ≡ short_row (string_within s cs)
+row_same : (s : Columns) (cs : Option Vals) → row_key s.clustering cs ≡ short_key (string_within s cs)
 row_same s None = refl
 row_same s (Some cs) = refl
 
 -- a put is accepted as its strings are
 pub put_same : (s : Columns) (line : ℕ) (p : PutText) (put : PutLine) → IsPutOf s p put → put_of s line p ≡ put_with line put
-put_same s line p put (partition, (clustering, value)) =
+put_same s line p put ((key, value), split) =
+    let string = key_string s.partition p.partition in
+    let partition : take put.split put.key ≡ string = ap (λ k. take k put.key) split ∙ ap (take (length string)) key ∙ take-append_seam string (string_within s p.clustering) in
+    let clustering : drop put.split put.key ≡ string_within s p.clustering = ap (λ k. drop k put.key) split ∙ ap (drop (length string)) key ∙ drop-append_seam string (string_within s p.clustering) in
     ap (λ a. with_parts line a (row_key s.clustering p.clustering) (bytes_in p.value)) (sym partition)
-    ∙ ap (λ b. with_parts line put.partition b (bytes_in p.value)) (row_same s p.clustering ∙ ap short_row (sym clustering))
-    ∙ ap (λ v. with_parts line put.partition (short_row put.clustering) (bytes_in v)) value
+    ∙ ap (λ b. with_parts line (take put.split put.key) b (bytes_in p.value)) (row_same s p.clustering ∙ ap short_key (sym clustering))
+    ∙ ap (λ v. with_parts line (take put.split put.key) (short_key (drop put.split put.key)) (bytes_in v)) value
 
 module _ (s : Columns) (line : ℕ) (text : List ℕ) (utf8 : is_utf8 text ≡ true) where
   is_said : put_on s line text ≡ (line_of s text >>= λ said. some_put s line said)

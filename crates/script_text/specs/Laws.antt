@@ -8,7 +8,7 @@ use Rattle.byte_comparable.specs.Encoding.{key_string}
 use Rattle.grammar.specs.Exact.{Longest}
 use Rattle.script_text.specs.declared.script.LineCause.{LineCause}
 use Rattle.script_text.specs.declared.script.LineCause.TheVariants as cause
-use Rattle.script_text.specs.declared.script.Put.{Put}
+use Rattle.script_text.specs.Puts.{Put}
 use Rattle.script_text.specs.declared.script.Script.{Script}
 use Rattle.script_text.specs.Grammar.{PutText, IsLine, LineFits}
 use Rattle.script_text.specs.Passing.{LinePasses}

@@ -1,3 +1,4 @@
+pub mod Puts
 pub mod Lines
 pub mod Grammar
 pub mod Passing

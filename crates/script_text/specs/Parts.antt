@@ -1,5 +1,5 @@
 -- What was read of a line, spelled as the strings of its key: only private contracts cite it.
-use Rattle.std.specs.Prelude.{◌≡◌, ℕ, List, [], Option, None, Some, Result, Ok, Err}
+use Rattle.std.specs.Prelude.{◌≡◌, ℕ, List, [], ◌++◌, length, take, drop, Option, None, Some, Result, Ok, Err}
 use Rattle.grammar.specs.declared.stop.Stop.{Stop}
 use Rattle.grammar.specs.Code.{Stops}
 use Rattle.key_types.specs.Kinds.{bytes, Val, Vals}
@@ -7,7 +7,7 @@ use Rattle.key_types.specs.Columns.{Columns}
 use Rattle.byte_comparable.specs.Encoding.{key_string}
 use Rattle.key_text.specs.Marking.{Marked}
 use Rattle.script_text.specs.declared.puts.PutLine.{PutLine}
-use Rattle.script_text.specs.declared.script.Put.{Put}
+use Rattle.script_text.specs.Puts.{Put}
 use Rattle.script_text.specs.declared.script.LineCause.{LineCause}
 use Rattle.script_text.specs.declared.script.ScriptError.{ScriptError}
 use Rattle.script_text.specs.declared.script.ScriptError.TheVariants.{NoMemory}
@@ -19,18 +19,18 @@ use Rattle.script_text.specs.Script.{◌>>=◌, short_key, short_value}
 abbrev pub value_with : Option ℕ → List ℕ → Marked Val
 value_with mark value = (bytes value, mark)
 
--- the string within the partition of a row; a static value has none
-abbrev pub string_within : Columns → Option Vals → Option (List ℕ)
-string_within s None = None
-string_within s (Some cs) = Some (key_string s.clustering cs)
+-- the string within the partition of a row; a static value has the empty one
+abbrev pub string_within : Columns → Option Vals → List ℕ
+string_within s None = []
+string_within s (Some cs) = key_string s.clustering cs
 
--- the string within the partition and the bytes of the value are those of what stands behind the components of a partition
-abbrev pub IsRestOf : Columns → RestText → Option (List ℕ) → List ℕ → Type 0
-IsRestOf s rest string value = (string ≡ string_within s rest.0) × (rest.1 ≡ bytes value)
+-- behind the string of a partition that within it was put, and the bytes are those of the value, of what stands behind the components of the partition
+abbrev pub IsRestOf : Columns → RestText → List ℕ → List ℕ → List ℕ → Type 0
+IsRestOf s rest before after value = (after ≡ before ++ string_within s rest.0) × (rest.1 ≡ bytes value)
 
 -- the strings and the bytes are those of this put
 abbrev pub IsPutOf : Columns → PutText → PutLine → Type 0
-IsPutOf s put line = (line.partition ≡ key_string s.partition put.partition) × IsRestOf s (put.clustering, put.value) line.clustering line.value
+IsPutOf s put line = IsRestOf s (put.clustering, put.value) (key_string s.partition put.partition) line.key line.value × (line.split ≡ length (key_string s.partition put.partition))
 
 -- the code read something of which this holds, as the definition reads it, with this mark; or the definition's reading stops there too, or memory ran out
 abbrev pub GivesOne : {A X : Type 0} → (A → X → Type 0) → (X → List ℕ) → Option ℕ → Result X Stop → Result (Marked A × List ℕ) ℕ → Type 0
@@ -49,15 +49,10 @@ Sees s (Ok (Some line)) said = (put : PutText) × (said ≡ Ok (Some put)) × Is
 Sees s (Err NoMemory) said = Unit {0}
 Sees s (Err e) said = said ≡ Err e
 
--- a row's string of at most 1,024 bytes; a static value has the empty one
-abbrev pub short_row : Option (List ℕ) → Result (List ℕ) LineCause
-short_row (Some string) = short_key string
-short_row None = Ok []
-
 -- the put of these strings and this value, or the first of them that is too long
 abbrev pub put_with : ℕ → PutLine → Result Put LineCause
 put_with line p = do
-  partition ← short_key p.partition
-  clustering ← short_row p.clustering
+  partition ← short_key (take p.split p.key)
+  clustering ← short_key (drop p.split p.key)
   value ← short_value p.value
   Ok (record { line = line; partition = partition; clustering = clustering; value = value })

@@ -5,7 +5,7 @@ use Rattle.key_types.specs.Kinds.{Kinds, Val, bytes, Vals}
 use Rattle.key_types.specs.Table.{Entry}
 use Rattle.byte_comparable.specs.Encoding.{key_string}
 use Rattle.key_types.specs.Columns.{Columns}
-use Rattle.script_text.specs.declared.script.Put.{Put}
+use Rattle.script_text.specs.Puts.{Put}
 use Rattle.script_text.specs.declared.script.Batch.{Batch}
 use Rattle.script_text.specs.declared.script.Script.{Script}
 use Rattle.script_text.specs.declared.script.LineCause.{LineCause}

@@ -1,10 +1,8 @@
 //! Lines that put, read from the front of bytes. The strings of their keys are spelled while they are read.
-ghost use Rattle.std.specs.Prelude.{◌≡◌, Option, ℕ};
+ghost use Rattle.std.specs.Prelude.{◌≡◌, List, Option, ℕ};
 ghost use Rattle.grammar.specs.Code.{Gives};
-ghost use Rattle.key_types.specs.Kinds.{kinds_of};
 ghost use Rattle.key_types.specs.Columns.{Columns, columns_of};
-ghost use Rattle.byte_comparable.specs.Encoding.{key_string};
-ghost use Rattle.key_text.specs.Marking.{marked_at, marked_list};
+ghost use Rattle.key_text.specs.Marking.{marked_at};
 ghost use Rattle.script_text.specs.Grammar.{value_kind};
 ghost use Rattle.script_text.specs.Reading.{set_at, row_at, static_at, rest_by, put_at, whole_put};
 ghost use Rattle.script_text.specs.Parts.{GivesOne, GivesWhole, IsPutOf, IsRestOf, value_with};
@@ -12,39 +10,21 @@ ghost use Rattle.script_text.specs.Parts.{GivesOne, GivesWhole, IsPutOf, IsRestO
 use grammar::{Stop, read_sign, read_word, skip_spaces};
 use key_spelling::spell_list;
 use key_text::{read_closed_blob, read_closed_text};
-use key_types::{KeyBytes, Schema, TypeList, ValueBytes, ValueType};
+use key_types::{KeyBytes, Schema, ValueBytes, ValueType};
 use std::alloc::Global;
 
-/// The room, in bytes, that the string of a partition is given at first: with that of a row behind it, it seldom needs more.
-const PARTITION_ROOM: usize = 40;
-
-/// The room, in bytes, that the string of a row within its partition is given at first.
-const ROW_ROOM: usize = 24;
+/// The room, in bytes, that the string of a key is given at first, so that most never grow.
+const ROOM: usize = 40;
 
 /// What a line puts.
 #[derive(Drop)]
 pub struct PutLine {
-    /// The string of the partition.
-    pub partition: KeyBytes,
-    /// The string of the row within the partition; without one the put is of the partition's static value.
-    pub clustering: Option<KeyBytes>,
+    /// The string of the partition and, in a put of a row, that of the row within it behind it.
+    pub key: KeyBytes,
+    /// The length of the partition's string.
+    pub split: usize,
     /// The bytes of the value, a text or a blob.
     pub value: ValueBytes,
-}
-
-/// The string of components in parentheses, with this room at first.
-fn read_string<'a>(
-    alloc: Global,
-    room: usize,
-    kinds: &TypeList,
-    outside: &mut Option<usize>,
-    bytes: &'a [u8],
-) -> Result<(KeyBytes, &'a [u8]), Stop>
-    ensures { GivesOne (λ values x. x.0 ≡ key_string (kinds_of kinds.now) values) (λ x. x.1.now) outside.new result (marked_list (kinds_of kinds.now) outside.old bytes.now) }
-{
-    let mut string = KeyBytes::from_vec(Vec::with_capacity(alloc, room)?);
-    let rest = spell_list(alloc, kinds, outside, bytes, &mut string)?;
-    Ok((string, rest))
 }
 
 /// A value of the type.
@@ -65,46 +45,42 @@ fn read_set(alloc: Global, kind: ValueType, bytes: &[u8]) -> Result<(ValueBytes,
     read_value(alloc, kind, rest)
 }
 
-/// The components of a row, and what it is set to.
+/// The components of a row, whose string is put behind that of its partition, and what it is set to.
 fn read_row<'a>(
     alloc: Global,
     schema: &Schema,
     outside: &mut Option<usize>,
     bytes: &'a [u8],
-) -> Result<(Option<KeyBytes>, ValueBytes, &'a [u8]), Stop>
-    ensures { GivesOne (λ rest x. IsRestOf (columns_of schema.now) rest x.0 x.1) (λ x. x.2.now) outside.new result (row_at (columns_of schema.now) outside.old bytes.now) }
+    key: &mut KeyBytes,
+) -> Result<(ValueBytes, &'a [u8]), Stop>
+    ensures { GivesOne (λ rest x. IsRestOf (columns_of schema.now) rest key.old key.new x.0) (λ x. x.1.now) outside.new result (row_at (columns_of schema.now) outside.old bytes.now) }
 {
-    let (clustering, rest) = read_string(alloc, ROW_ROOM, &schema.clustering, outside, bytes)?;
-    let (value, rest) = read_set(alloc, schema.value, rest)?;
-    Ok((Some(clustering), value, rest))
+    let rest = spell_list(alloc, &schema.clustering, outside, bytes, key)?;
+    read_set(alloc, schema.value, rest)
 }
 
 /// The word `static`, and what the static value is set to.
-fn read_static(
-    alloc: Global,
-    kind: ValueType,
-    bytes: &[u8],
-) -> Result<(Option<KeyBytes>, ValueBytes, &[u8]), Stop>
-    ensures { (columns : Columns) (mark : Option ℕ) → GivesOne (λ rest x. IsRestOf columns rest x.0 x.1) (λ x. x.2.now) mark result (static_at kind mark bytes.now) }
+fn read_static(alloc: Global, kind: ValueType, bytes: &[u8]) -> Result<(ValueBytes, &[u8]), Stop>
+    ensures { (columns : Columns) (mark : Option ℕ) (key : List ℕ) → GivesOne (λ rest x. IsRestOf columns rest key key x.0) (λ x. x.1.now) mark result (static_at kind mark bytes.now) }
 {
     let (_, rest) = read_word(b"static", bytes)?;
-    let (value, rest) = read_set(alloc, kind, rest)?;
-    Ok((None, value, rest))
+    read_set(alloc, kind, rest)
 }
 
-/// What stands behind the components of the partition.
+/// What stands behind the components of the partition; the string of a row is put behind that of the partition.
 fn read_rest<'a>(
     alloc: Global,
     schema: &Schema,
     outside: &mut Option<usize>,
     bytes: &'a [u8],
-) -> Result<(Option<KeyBytes>, ValueBytes, &'a [u8]), Stop>
-    ensures { GivesOne (λ rest x. IsRestOf (columns_of schema.now) rest x.0 x.1) (λ x. x.2.now) outside.new result
+    key: &mut KeyBytes,
+) -> Result<(ValueBytes, &'a [u8]), Stop>
+    ensures { GivesOne (λ rest x. IsRestOf (columns_of schema.now) rest key.old key.new x.0) (λ x. x.1.now) outside.new result
         (rest_by (columns_of schema.now) schema.now.static_value outside.old bytes.now) }
 {
     match (schema.static_value, bytes) {
         (Some(kind), [byte, ..]) if *byte != b'(' => read_static(alloc, kind, bytes),
-        _ => read_row(alloc, schema, outside, bytes),
+        _ => read_row(alloc, schema, outside, bytes, key),
     }
 }
 
@@ -118,16 +94,11 @@ fn read_put<'a>(
     ensures { GivesOne (λ put x. IsPutOf (columns_of schema.now) put x.0) (λ x. x.1.now) outside.new result (put_at (columns_of schema.now) outside.old bytes.now) }
 {
     let (_, rest) = read_word(b"put", bytes)?;
-    let (partition, rest) = read_string(alloc, PARTITION_ROOM, &schema.partition, outside, rest)?;
-    let (clustering, value, rest) = read_rest(alloc, schema, outside, rest)?;
-    Ok((
-        PutLine {
-            partition,
-            clustering,
-            value,
-        },
-        rest,
-    ))
+    let mut key = KeyBytes::from_vec(Vec::with_capacity(alloc, ROOM)?);
+    let rest = spell_list(alloc, &schema.partition, outside, rest, &mut key)?;
+    let split = key.len();
+    let (value, rest) = read_rest(alloc, schema, outside, rest, &mut key)?;
+    Ok((PutLine { key, split, value }, rest))
 }
 
 /// The put of a whole line, and how many bytes are left where its first number begins that passes its type.

@@ -1,7 +1,7 @@
 //! A script, read line by line.
-ghost use Rattle.std.specs.Prelude.{◌≡◌, ◌≤◌, ◌∷◌, ◌++◌, [], length, IfOk, OnOk};
+ghost use Rattle.std.specs.Prelude.{◌≡◌, ◌≤◌, ◌∷◌, ◌++◌, [], length, Ok, Err, IfOk, IfErr, OnOk};
 ghost use Rattle.key_types.specs.Columns.{columns_of};
-ghost use Rattle.script_text.specs.Parts.{put_with, short_row, Sees};
+ghost use Rattle.script_text.specs.Parts.{put_with, Sees};
 ghost use Rattle.script_text.specs.Reading.{is_comment, is_blank, line_of};
 ghost use Rattle.script_text.specs.Script.{at_line, short_key, short_value, put_on, in_front, puts_from, script_of, Answers};
 ghost use Rattle.script_text.specs.Lines.{lines_of};
@@ -10,7 +10,7 @@ use crate::lines::{first_line, over};
 use crate::puts::{PutLine, read_whole};
 use crate::script::{Batch, LineCause, Put, PutList, Script, ScriptError};
 use grammar::Stop;
-use key_types::{KeyBytes, ListOf, NoMemory, Schema, ValueBytes, is_text};
+use key_types::{ListOf, NoMemory, Schema, is_text};
 use std::alloc::Global;
 
 const MOST_BYTES: usize = 67_108_864;
@@ -66,53 +66,38 @@ fn read_line(
     }
 }
 
-/// The string of a key's part, where it has at most 1,024 bytes.
-fn short_key(line: u32, string: KeyBytes) -> Result<KeyBytes, ScriptError>
-    ensures { Answers result (at_line line (short_key string)) }
+/// Whether the string of a part of a key has at most 1,024 bytes.
+fn short_key(line: u32, string: &[u8]) -> Result<(), ScriptError>
+    ensures ok { IfOk result (λ _. short_key string.now ≡ Ok string.now) }
+    ensures err { IfErr result (λ error. at_line line (short_key string.now) ≡ Err error) }
 {
     if string.len() > LONGEST_KEY {
         return Err(ScriptError::BadLine(line, LineCause::KeyTooLong(string.len())));
     }
-    Ok(string)
+    Ok(())
 }
 
-/// The string of a row within its partition, where it has at most 1,024 bytes; a static value has the empty one.
-fn short_row(
-    alloc: Global,
-    line: u32,
-    clustering: Option<KeyBytes>,
-) -> Result<KeyBytes, ScriptError>
-    ensures { Answers result (at_line line (short_row clustering)) }
-{
-    match clustering {
-        Some(string) => short_key(line, string),
-        None => Ok(KeyBytes::new(alloc)),
-    }
-}
-
-/// The bytes of a value, where there are at most 65,535.
-fn short_value(line: u32, value: ValueBytes) -> Result<ValueBytes, ScriptError>
-    ensures { Answers result (at_line line (short_value value)) }
+/// Whether a value has at most 65,535 bytes.
+fn short_value(line: u32, value: &[u8]) -> Result<(), ScriptError>
+    ensures ok { IfOk result (λ _. short_value value.now ≡ Ok value.now) }
+    ensures err { IfErr result (λ error. at_line line (short_value value.now) ≡ Err error) }
 {
     if value.len() > LONGEST_VALUE {
         return Err(ScriptError::BadLine(line, LineCause::ValueTooLong(value.len())));
     }
-    Ok(value)
+    Ok(())
 }
 
-/// The put of a line's strings and its value.
-fn accept(alloc: Global, line: u32, put: PutLine) -> Result<Put, ScriptError>
+/// The put of a line's strings and its value, where none is too long.
+fn accept(line: u32, put: PutLine) -> Result<Put, ScriptError>
+    requires { put.split ≤ length put.key }
     ensures { Answers result (at_line line (put_with line put)) }
 {
-    let partition = short_key(line, put.partition)?;
-    let clustering = short_row(alloc, line, put.clustering)?;
-    let value = short_value(line, put.value)?;
-    Ok(Put {
-        line,
-        partition,
-        clustering,
-        value,
-    })
+    let (partition, clustering) = put.key.as_slice().split_at(put.split);
+    short_key(line, partition)?;
+    short_key(line, clustering)?;
+    short_value(line, put.value.as_slice())?;
+    Ok(Put::new(line, put.key, put.split, put.value))
 }
 
 /// The put of a line, where it has one.
@@ -128,7 +113,7 @@ fn read_put(
         return Err(ScriptError::BadLine(line, LineCause::NotUtf8));
     }
     match read_line(alloc, schema, line, text) {
-        Ok(Some(put)) => match accept(alloc, line, put) {
+        Ok(Some(put)) => match accept(line, put) {
             Ok(put) => Ok(Some(put)),
             Err(error) => Err(error),
         },

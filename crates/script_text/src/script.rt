@@ -1,18 +1,54 @@
 //! The script as the layers above see it.
+ghost use Rattle.std.specs.Prelude.{◌≡◌, ◌≤◌, ◌++◌, take, drop, length};
 
 use key_types::{KeyBytes, ListOf, NoMemory, ValueBytes};
+use std::marker::Model;
 
-/// A row, or the static value of a partition, that a line puts.
+/// A row, or the static value of a partition, that a line puts. Contracts see it as the `Put` of its parts.
 #[derive(Debug, Drop)]
 pub struct Put {
-    /// The number of the line, counted from 1.
-    pub line: u32,
-    /// The key string of the row's partition.
-    pub partition: KeyBytes,
-    /// The key string of the row within its partition; the empty one names the partition's static value.
-    pub clustering: KeyBytes,
-    /// The value, of at most 65,535 bytes.
-    pub value: ValueBytes,
+    line: u32,
+    /// The string of the partition and behind it that of the row within it.
+    key: KeyBytes,
+    /// The length of the partition's string.
+    split: usize,
+    value: ValueBytes,
+}
+
+impl Model for Put {
+    ghost use Rattle.std.specs.Prelude.{◌≤◌, take, drop, length};
+    ghost use Rattle.script_text.specs.Puts as puts;
+
+    ghost Value = { puts.Put };
+
+    ghost view = { λ p. record { line = p.line; partition = take p.split p.key; clustering = drop p.split p.key; value = p.value } };
+
+    ghost invariant = { λ p. p.split ≤ length p.key };
+}
+
+impl Put {
+    /// The put of the line with this number, counted from 1, of a key with this string, which begins with so many bytes of its partition's, and of this value.
+    /// Where these are all bytes, the put is of the partition's static value.
+    pub fn new(line: u32, key: KeyBytes, split: usize, value: ValueBytes) -> Put
+        requires { split ≤ length key }
+        ensures { result ≡ record { line = line; partition = take split key; clustering = drop split key; value = value } }
+    {
+        Put {
+            line,
+            key,
+            split,
+            value,
+        }
+    }
+
+    /// The string of its key and its value.
+    pub fn into_entry(self) -> (KeyBytes, ValueBytes)
+        ensures key { result.0 ≡ self.partition ++ self.clustering }
+        ensures value { result.1 ≡ self.value }
+    {
+        let Put { key, value, .. } = self;
+        (key, value)
+    }
 }
 
 /// A key that a line asks for, and the reader that it goes to.

@@ -7,7 +7,7 @@ use Rattle.outside.specs.Files.{Files}
 use Rattle.key_types.specs.Columns.{Columns}
 use Rattle.key_types.specs.Table.{Entry, string_cmp}
 use Rattle.data_file.specs.Listing.{data_bytes}
-use Rattle.script_text.specs.declared.script.Put.{Put}
+use Rattle.script_text.specs.Puts.{Put}
 use Rattle.table_tool.specs.Entries.{row_count}
 use Rattle.table_tool.specs.Grouping.{AreEntries, grouped}
 use Rattle.table_tool.specs.Loading.{Begun, Changes, Loaded, NoneThere, Reaches, ok_line}

@@ -7,7 +7,7 @@ use Rattle.std.specs.Cmp.Lexicographic.{nat_list_cmp_total}
 use Rattle.std.specs.BTreeMap.{insert_entry}
 use Rattle.std.specs.FinMap as map
 use Rattle.key_types.specs.Table.{Entry, Table, string_cmp, table_after, table_of}
-use Rattle.script_text.specs.declared.script.Put.{Put}
+use Rattle.script_text.specs.Puts.{Put}
 use Rattle.script_text.specs.Script.{entry_of, entries_of}
 use Rattle.table_tool.specs.Rows.{rows_after}
 

@@ -15,7 +15,7 @@ use Rattle.key_types.specs.declared.schema.ValueType.{ValueType}
 use Rattle.key_decode.specs.Strings.{IsStringOf}
 use Rattle.key_decode.proofs.Known.{fitting}
 use Rattle.data_file.specs.Listing.{IsFixed}
-use Rattle.script_text.specs.declared.script.Put.{Put}
+use Rattle.script_text.specs.Puts.{Put}
 use Rattle.script_text.specs.declared.script.Script.{Script}
 use Rattle.script_text.specs.Script.{entries_of, entry_of, puts_of}
 use Rattle.script_text.specs.Laws.{ArePuts, IsAccepted, IsKey, IsPut, IsRowPut, IsStaticPut}

@@ -8,7 +8,7 @@ use Rattle.outside.specs.Files.{Files, LeavesPrefix, bytes_of}
 use Rattle.outside.specs.declared.store.FileId.{FileId}
 use Rattle.key_types.specs.Columns.{Columns}
 use Rattle.data_file.specs.Writing.{PutsAllBut}
-use Rattle.script_text.specs.declared.script.Put.{Put}
+use Rattle.script_text.specs.Puts.{Put}
 use Rattle.script_text.specs.declared.script.Script.{Script}
 use Rattle.script_text.specs.declared.script.ScriptError.{ScriptError}
 use Rattle.script_text.specs.declared.script.ScriptError.TheVariants as script_error

@@ -16,9 +16,8 @@ fn put_batch(rows: &mut Rows, puts: PutList) -> Result<(), NoMemory>
     ensures { OnOk result (rows.new.entries ≡ rows_after rows.old.entries (entries_of puts)) }
 {
     for put in puts.into_vec() {
-        let mut key = put.partition;
-        key.extend(put.clustering.as_slice())?;
-        rows.insert(key, put.value)?;
+        let (key, value) = put.into_entry();
+        rows.insert(key, value)?;
     }
     Ok(())
 }

@@ -1,4 +1,4 @@
-use Rattle.std.proofs.Common.{rules, ◌≡◌, sym, subst, Bor, List, ℕ, Option, Result}
+use Rattle.std.proofs.Common.{rules, ◌≡◌, sym, subst, Bor, List, ℕ, Result}
 use Rattle.key_types.specs.Columns.{columns_of}
 use Rattle.key_text.specs.Marking.{Marked}
 use Rattle.script_text.specs.Reading.{RestText, rest_by, static_at}
@@ -10,5 +10,6 @@ returns-in-Some-len1-up c =
     let s = columns_of c.args.schema.now in
     let mark = c.args.outside.now in
     let same : rest_by s c.args.schema.now.static_value mark c.args.bytes.now ≡ static_at c.in-Some-len1-up.kind mark c.args.bytes.now = search rules in
-    subst (λ (read : Result (Marked RestText × List ℕ) ℕ). GivesOne {X = Option (List ℕ) × List ℕ × Bor (List ℕ)} (λ rest x. IsRestOf s rest x.0 x.1) (λ x. x.2.now) mark c.read_static.result read) (sym same)
-    (c.read_static.ensures s mark)
+    let key = c.args.key.now in
+    subst (λ (read : Result (Marked RestText × List ℕ) ℕ). GivesOne {X = List ℕ × Bor (List ℕ)} (λ rest x. IsRestOf s rest key key x.0) (λ x. x.1.now) mark c.read_static.result read) (sym same)
+    (c.read_static.ensures s mark key)

@@ -1,7 +1,7 @@
 use Rattle.std.proofs.Common.{◌≡◌, true}
 use Rattle.std.specs.Str.{is_utf8}
 use Rattle.key_types.specs.Columns.{columns_of}
-use Rattle.script_text.proofs.Steps.{refused, rejected}
+use Rattle.script_text.proofs.Steps.{accepted, refused, rejected}
 use Rattle.script_text.proofs.reader.read_put.Goals as goal
 
 pub returns-in-Err : goal.returns-in-Err
@@ -14,3 +14,9 @@ returns-in-Err-accept c =
     let u : is_utf8 c.args.text.now ≡ true = cc in
     let said = rw c.in-Ok-Some.field-0-is at c.in-Ok-Some.ensures in
     rejected (columns_of c.args.schema.now) c.args.line c.args.text.now u said.0 said.1 c.in-Ok-Some.put said.2 c.in-Err-accept.error c.in-Err-accept.ensures
+
+pub returns-in-Ok : goal.returns-in-Ok
+returns-in-Ok c =
+    let u : is_utf8 c.args.text.now ≡ true = cc in
+    let said = rw c.in-Ok-Some.field-0-is at c.in-Ok-Some.ensures in
+    accepted (columns_of c.args.schema.now) c.args.line c.args.text.now u said.0 said.1 c.in-Ok-Some.put said.2 c.in-Ok.put c.in-Ok.ensures
