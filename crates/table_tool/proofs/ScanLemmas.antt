@@ -51,7 +51,7 @@ module _ (columns : Columns) (files : Option Files) (scan : Scan) (filled : Unre
     (told : IfSome files (λ m. Continues (bytes_of m data_id) scan.walk.window → Continues (bytes_of m data_id) filled)) where
   -- the walk behind the read
   abbrev ahead : Walk
-  ahead = record { window = filled; key = scan.walk.key; text = scan.walk.text; inside = scan.walk.inside }
+  ahead = record { window = filled; key = scan.walk.key; text = scan.walk.text; inside = scan.walk.inside; stop = scan.walk.stop }
 
   walked_on : (fs : Option Files) (walk' : Walk) (entries more : List Entry) → Moves columns ahead walk' more
       → IfSome fs (λ m. Continues (bytes_of m data_id) scan.walk.window → Continues (bytes_of m data_id) filled)
@@ -101,13 +101,9 @@ module _ (columns : Columns) (files : Option Files) (scan : Scan) (filled : Unre
       subst (λ (n : ℕ). Passes columns (bytes_of m data_id) None 0 entries (inside_of scan.walk) n) (sym place) walked.1 in
       passes_stop columns (bytes_of m data_id) entries (inside_of scan.walk) filled.at from stop (halts (bytes_of m data_id) (read walked.0))
 
-  pub end_turn : (walk' : Walk) (text' : List ℕ) → StepIs columns ahead walk' scan.text text' met.End
-      → TurnIs columns files scan (record { walk = walk'; text = text'; rows = scan.rows }) (Stopped None)
-  end_turn walk' text' (line, halts) = (line, refl, λ pushed entries held. stopped files entries None halts told held.walked)
-
-  pub damage_turn : (walk' : Walk) (text' : List ℕ) (damage : Damage) → StepIs columns ahead walk' scan.text text' (met.Damaged damage)
-      → TurnIs columns files scan (record { walk = walk'; text = text'; rows = scan.rows }) (Stopped (Some damage))
-  damage_turn walk' text' damage (line, halts) = (line, refl, λ pushed entries held. stopped files entries (Some damage) halts told held.walked)
+  pub stop_turn : (walk' : Walk) (text' : List ℕ) → StepIs columns ahead walk' scan.text text' met.Stop
+      → TurnIs columns files scan (record { walk = walk'; text = text'; rows = scan.rows }) Stopped
+  stop_turn walk' text' (line, halts) = (line, refl, λ pushed entries held. stopped files entries walk'.stop halts told held.walked)
 
 -- ---- all turns
 

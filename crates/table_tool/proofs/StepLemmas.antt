@@ -9,6 +9,7 @@ use Rattle.key_types.specs.Table.{Entry}
 use Rattle.key_decode.specs.Strings.{IsStringOf}
 use Rattle.key_decode.proofs.Known.{string_length}
 use Rattle.key_printing.specs.Texts.{IsTextOf, PutsText}
+use Rattle.bti_nodes.specs.declared.damage.Damage.{Damage}
 use Rattle.bti_nodes.specs.declared.damage.Cause.TheVariants.{BadHead, BadRow}
 use Rattle.key_types.specs.declared.schema.ValueType.{ValueType}
 use Rattle.data_file.specs.declared.parse.ParseRow.{ParseRow}
@@ -19,13 +20,13 @@ use Rattle.data_file.specs.Reading.{BeginsEnd, BeginsHead, BeginsRow, NoFixed, N
 use Rattle.data_file.proofs.Found.{no_head_on}
 use Rattle.table_tool.specs.declared.walk.Walk.{Walk}
 use Rattle.table_tool.specs.declared.walk.Met.{Met}
-use Rattle.table_tool.specs.declared.walk.Met.TheVariants.{Damaged}
+use Rattle.table_tool.specs.declared.walk.Met.TheVariants.{Stop}
 use Rattle.table_tool.specs.Entries.{is_row, row_count}
 use Rattle.table_tool.specs.Printed.{entry_line, entry_lines}
 use Rattle.table_tool.specs.Standing.{fixed_entries}
 use Rattle.table_tool.specs.Window.{Unread, Continues, IsFull, enough}
 use Rattle.table_tool.specs.Walk.{Passes, Stops}
-use Rattle.table_tool.specs.Steps.{IsFixedBehind, Moves, NoFixedBehind, Shows, StepIs, inside_of}
+use Rattle.table_tool.specs.Steps.{Halts, IsFixedBehind, Moves, NoFixedBehind, Shows, StepIs, inside_of}
 use Rattle.table_tool.proofs.PartsLemmas.{some_string}
 use Rattle.table_tool.proofs.PrintedLemmas.{fixed_count, is_row_behind}
 use Rattle.table_tool.proofs.WalkLemmas.{bad_fixed_stops, bad_head_stops, bad_row_stops, end_passes, file_end_stops, head_passes, row_passes}
@@ -137,15 +138,18 @@ module _ (columns : Columns) where
   some_there [] rest ne = λ e. ne refl
   some_there (b ∷ bytes) rest ne = λ e. cc
 
+  stops_so : (walk walk' : Walk) (text : List ℕ) (met : Met) (damage : Damage) → met ≡ Stop → walk'.stop ≡ Some damage → Halts columns walk (Some damage) → StepIs columns walk walk' text text met
+  stops_so walk walk' text met damage is stop halts =
+      subst (λ (m : Met). StepIs columns walk walk' text text m) (sym is) (refl, subst (λ (d : Option Damage). Halts columns walk d) (sym stop) halts)
+
   pub halts_head : (walk walk' : Walk) (text : List ℕ) (met : Met) → walk.inside ≡ false → IsFull walk.window → walk.window.bytes ≢ []
-      → NoHead columns walk.window.bytes → met ≡ Damaged (damage_at walk.window.at BadHead) → StepIs columns walk walk' text text met
-  halts_head walk walk' text met outside full some no_head is =
-      subst (λ (m : Met). StepIs columns walk walk' text text m) (sym is) (
-        refl,
-        λ file c.
-            subst (λ (o : Option (List ℕ)). Stops columns file o walk.window.at [] (Some (damage_at walk.window.at BadHead))) (sym (is_outside walk outside))
-            (bad_head_stops columns file walk.window.at (λ e. some_there walk.window.bytes c.rest some (sym c.is ∙ e))
-            (no_head_there file walk.window c full no_head)),
+      → NoHead columns walk.window.bytes → met ≡ Stop → walk'.stop ≡ Some (damage_at walk.window.at BadHead) → StepIs columns walk walk' text text met
+  halts_head walk walk' text met outside full some no_head is stop =
+      stops_so walk walk' text met (damage_at walk.window.at BadHead) is stop (
+      λ file c.
+      subst (λ (o : Option (List ℕ)). Stops columns file o walk.window.at [] (Some (damage_at walk.window.at BadHead))) (sym (is_outside walk outside))
+      (bad_head_stops columns file walk.window.at (λ e. some_there walk.window.bytes c.rest some (sym c.is ∙ e))
+      (no_head_there file walk.window c full no_head))
       )
 
   -- no static part stands there in the file
@@ -156,27 +160,25 @@ module _ (columns : Columns) where
   no_part_there file w key more short e c (inr long) (inl (no_part, few)) = absurd (omega (arith, ap length e, length-append (head_bytes key) more))
 
   pub halts_fixed : (walk walk' : Walk) (text key : List ℕ) (met : Met) (n : ℕ) → walk.inside ≡ false → IsFull walk.window → BeginsHead columns walk.window.bytes key → n ≡ length (head_bytes key)
-      → NoFixedBehind columns (drop n walk.window.bytes) → met ≡ Damaged (damage_at (walk.window.at + n) BadRow) → StepIs columns walk walk' text text met
-  halts_fixed walk walk' text key met n outside full (string, (more, e)) size (static, no_part) is =
+      → NoFixedBehind columns (drop n walk.window.bytes) → met ≡ Stop → walk'.stop ≡ Some (damage_at (walk.window.at + n) BadRow) → StepIs columns walk walk' text text met
+  halts_fixed walk walk' text key met n outside full (string, (more, e)) size (static, no_part) is stop =
       let w : Unread = walk.window in
       let rest : drop n w.bytes ≡ more = ap (λ (m : ℕ). drop m w.bytes) size ∙ ap (drop (length (head_bytes key))) e ∙ drop-append_seam (head_bytes key) more in
       let told = subst (λ (bs : List ℕ). (NoFixed columns bs × (length bs < 65538)) ⊎ ((behind : List ℕ) → NoFixed columns (bs ++ behind))) rest no_part in
-      subst (λ (m : Met). StepIs columns walk walk' text text m) (sym (is ∙ ap (λ (m : ℕ). Damaged (damage_at (walk.window.at + m) BadRow)) size)) (
-        refl,
-        λ file c.
-            subst (λ (o : Option (List ℕ)). Stops columns file o walk.window.at [] (Some (damage_at (walk.window.at + length (head_bytes key)) BadRow))) (sym (is_outside walk outside))
-            (bad_fixed_stops columns file walk.window.at key (more ++ c.rest) string static (c.is ∙ ap (λ bs. bs ++ c.rest) e ∙ append_assoc (head_bytes key) more c.rest)
-            (no_part_there file w key more (string_length columns.partition key string) e c full told)),
+      stops_so walk walk' text met (damage_at (walk.window.at + length (head_bytes key)) BadRow) is (stop ∙ ap (λ (m : ℕ). Some (damage_at (walk.window.at + m) BadRow)) size) (
+      λ file c.
+      subst (λ (o : Option (List ℕ)). Stops columns file o walk.window.at [] (Some (damage_at (walk.window.at + length (head_bytes key)) BadRow))) (sym (is_outside walk outside))
+      (bad_fixed_stops columns file walk.window.at key (more ++ c.rest) string static (c.is ∙ ap (λ bs. bs ++ c.rest) e ∙ append_assoc (head_bytes key) more c.rest)
+      (no_part_there file w key more (string_length columns.partition key string) e c full told))
       )
 
   pub halts_row : (walk walk' : Walk) (text : List ℕ) (met : Met) → (walk.inside ≡ false → ⊥)
-      → ((file : List ℕ) → Continues file walk.window → NoRow columns (drop walk.window.at file)) → met ≡ Damaged (damage_at walk.window.at BadRow) → StepIs columns walk walk' text text met
-  halts_row walk walk' text met within no_row is =
-      subst (λ (m : Met). StepIs columns walk walk' text text m) (sym is) (
-        refl,
-        λ file c.
-            subst (λ (o : Option (List ℕ)). Stops columns file o walk.window.at [] (Some (damage_at walk.window.at BadRow))) (sym (is_inside walk within))
-            (bad_row_stops columns file walk.window.at walk.key (no_row file c)),
+      → ((file : List ℕ) → Continues file walk.window → NoRow columns (drop walk.window.at file)) → met ≡ Stop → walk'.stop ≡ Some (damage_at walk.window.at BadRow) → StepIs columns walk walk' text text met
+  halts_row walk walk' text met within no_row is stop =
+      stops_so walk walk' text met (damage_at walk.window.at BadRow) is stop (
+      λ file c.
+      subst (λ (o : Option (List ℕ)). Stops columns file o walk.window.at [] (Some (damage_at walk.window.at BadRow))) (sym (is_inside walk within))
+      (bad_row_stops columns file walk.window.at walk.key (no_row file c))
       )
 
   pub few_rows : (w : Unread) → IsFull w → NoRow columns w.bytes × (length w.bytes < 66564) → (file : List ℕ) → Continues file w → NoRow columns (drop w.at file)

@@ -42,8 +42,8 @@ module _ (columns : Columns) where
   abbrev pub TurnIs : Option Files → Scan → Scan → Turn → Type 0
   TurnIs files scan scan' On = (scan.walk.window.at < scan'.walk.window.at) × (scan'.walk.window.limit ≡ scan.walk.window.limit)
       × ((pushed : List ℕ) (entries : List Entry) → Holding files scan pushed entries → (more : List Entry) × Holding files scan' pushed more)
-  TurnIs files scan scan' (Stopped stop) = (scan'.text ≡ scan.text) × (scan'.rows ≡ scan.rows)
-      × ((pushed : List ℕ) (entries : List Entry) → Holding files scan pushed entries → IfSome files (λ m. Stops columns (bytes_of m data_id) None 0 entries stop))
+  TurnIs files scan scan' Stopped = (scan'.text ≡ scan.text) × (scan'.rows ≡ scan.rows)
+      × ((pushed : List ℕ) (entries : List Entry) → Holding files scan pushed entries → IfSome files (λ m. Stops columns (bytes_of m data_id) None 0 entries scan'.walk.stop))
 
   -- the walk over Data.db passes these entries
   abbrev pub IsPart : Files → List Entry → Type 0

@@ -8,7 +8,7 @@ use Rattle.data_file.specs.Listing.{IsFixed, fixed_bytes}
 use Rattle.data_file.specs.Reading.{NoFixed}
 use Rattle.table_tool.specs.declared.walk.Walk.{Walk}
 use Rattle.table_tool.specs.declared.walk.Met.{Met}
-use Rattle.table_tool.specs.declared.walk.Met.TheVariants.{Row, Border, End, Damaged}
+use Rattle.table_tool.specs.declared.walk.Met.TheVariants.{Row, Border, Stop}
 use Rattle.table_tool.specs.Entries.{row_count}
 use Rattle.table_tool.specs.Printed.{entry_lines}
 use Rattle.table_tool.specs.Window.{Continues}
@@ -43,8 +43,7 @@ module _ (columns : Columns) where
   abbrev pub StepIs : Walk → Walk → List ℕ → List ℕ → Met → Type 0
   StepIs walk walk' text text' Row = Shows 1 walk walk' text text'
   StepIs walk walk' text text' Border = Shows 0 walk walk' text text'
-  StepIs walk walk' text text' End = (text' ≡ text) × Halts walk None
-  StepIs walk walk' text text' (Damaged damage) = (text' ≡ text) × Halts walk (Some damage)
+  StepIs walk walk' text text' Stop = (text' ≡ text) × Halts walk walk'.stop
 
 -- ---- the static part behind a head
 

@@ -40,8 +40,8 @@ pub struct Scan {
 #[derive(Clone, Copy, Debug, PartialEq, Eq)]
 pub enum Turn {
     On,
-    /// It is at the end of the file, or at damage.
-    Stopped(Option<Damage>),
+    /// It is at the end of the file, or at damage: its walk says which.
+    Stopped,
 }
 
 /// Why a scan came neither to the end of the file nor to damage.
@@ -75,8 +75,7 @@ impl Scan {
                 Ok(Turn::On)
             }
             Met::Border => Ok(Turn::On),
-            Met::End => Ok(Turn::Stopped(None)),
-            Met::Damaged(damage) => Ok(Turn::Stopped(Some(damage))),
+            Met::Stop => Ok(Turn::Stopped),
         }
     }
 
@@ -117,7 +116,7 @@ impl Scan {
         'turns: loop {
             match self.turn(alloc, schema, store) {
                 Ok(Turn::On) => {}
-                Ok(Turn::Stopped(stop)) => return Ok(stop),
+                Ok(Turn::Stopped) => return Ok(self.walk.stop),
                 Err(ReadError::StoreFault) => return Err(ScanError::StoreFault),
                 Err(ReadError::NoMemory) => return Err(ScanError::NoMemory),
             }

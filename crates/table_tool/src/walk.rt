@@ -1,7 +1,8 @@
 //! A walk over a data file, row by row.
-ghost use Rattle.std.specs.Prelude.{◌≡◌, ◌≤◌, ◌<◌, ◌^◌, [], false, drop, length, IfOk, IfSome, IsNone};
+ghost use Rattle.std.specs.Prelude.{◌≡◌, ◌≤◌, ◌<◌, ◌^◌, [], false, drop, length, Some, IfOk, IfSome, IsNone};
 ghost use Rattle.std.specs.Option.{option_copied};
 ghost use Rattle.key_types.specs.Columns.{columns_of};
+ghost use Rattle.bti_nodes.specs.declared.damage.Cause.TheVariants.{BadRow};
 ghost use Rattle.data_file.specs.Answers.{damage_at};
 ghost use Rattle.table_tool.specs.Window.{IsFull};
 ghost use Rattle.table_tool.specs.Steps.{HasKey, IsFixedBehind, NoFixedBehind, StepIs};
@@ -22,10 +23,8 @@ pub enum Met {
     Row,
     /// The start of a partition, whose static value it printed where there is one, or the end of one.
     Border,
-    /// The end of the file.
-    End,
-    /// A place where nothing sound begins.
-    Damaged(Damage),
+    /// The end of the file, or a place where nothing sound begins: the walk says which.
+    Stop,
 }
 
 /// Where a walk stands: the bytes before it, and the string of the partition that it is in or was in last, with the text of its components.
@@ -35,16 +34,8 @@ pub struct Walk {
     pub key: KeyBytes,
     pub text: ByteList,
     pub inside: bool,
-}
-
-fn damaged(at: u64, cause: Cause) -> Met
-    ensures { result ≡ Met.Damaged (damage_at at cause) }
-{
-    Met::Damaged(Damage {
-        part: Part::Data,
-        position: at,
-        cause,
-    })
+    /// Where it stopped at a place where nothing sound begins.
+    pub stop: Option<Damage>,
 }
 
 /// The static value behind a head of so many bytes, where there is one, and the length of the static part; `None` where no static part stands there. A table
@@ -81,7 +72,30 @@ impl Walk {
             key: KeyBytes::new(alloc),
             text: ByteList::new(alloc),
             inside: false,
+            stop: None,
         }
+    }
+
+    /// Stops at a place where nothing sound begins.
+    fn stop_at(&mut self, at: u64, cause: Cause) -> Met
+        ensures met { result ≡ Met.Stop }
+        ensures walk { self.new ≡ record { window = self.old.window; key = self.old.key; text = self.old.text; inside = self.old.inside; stop = Some (damage_at at cause) } }
+    {
+        self.stop = Some(Damage {
+            part: Part::Data,
+            position: at,
+            cause,
+        });
+        Met::Stop
+    }
+
+    /// Stops where neither a row nor the end of a partition stands.
+    fn stop_at_row(&mut self) -> Met
+        ensures met { result ≡ Met.Stop }
+        ensures walk { self.new ≡ record { window = self.old.window; key = self.old.key; text = self.old.text; inside = self.old.inside; stop = Some (damage_at self.old.window.at BadRow) } }
+    {
+        let at = self.window.at();
+        self.stop_at(at, Cause::BadRow)
     }
 
     /// Goes over the head of the partition that stands next and its static part, and prints its static value where there is one.
@@ -93,14 +107,17 @@ impl Walk {
     {
         let bytes = self.window.unread();
         if bytes.is_empty() {
-            return Ok(Met::End);
+            self.stop = None;
+            return Ok(Met::Stop);
         }
         let Some(key) = head_in(schema, bytes) else {
-            return Ok(damaged(self.window.at(), Cause::BadHead));
+            let at = self.window.at();
+            return Ok(self.stop_at(at, Cause::BadHead));
         };
         let head = 2 + key.len();
         let Some((fixed, length)) = fixed_behind(schema, bytes, head) else {
-            return Ok(damaged(self.window.at() + head as u64, Cause::BadRow));
+            let at = self.window.at() + head as u64;
+            return Ok(self.stop_at(at, Cause::BadRow));
         };
         self.key.truncate(0);
         self.key.extend(key)?;
@@ -139,8 +156,8 @@ impl Walk {
                 self.inside = false;
                 Ok(Met::Border)
             }
-            Err(ParseRow::Short) => Ok(damaged(self.window.at(), Cause::BadRow)),
-            Err(ParseRow::Bad) => Ok(damaged(self.window.at(), Cause::BadRow)),
+            Err(ParseRow::Short) => Ok(self.stop_at_row()),
+            Err(ParseRow::Bad) => Ok(self.stop_at_row()),
             Err(ParseRow::NoMemory) => Err(NoMemory),
         }
     }

@@ -1,8 +1,9 @@
-use Rattle.std.proofs.Common.{◌∙◌, ◌++◌, arith, subst}
+use Rattle.std.proofs.Common.{◌∙◌, ◌++◌, ap, arith, subst, Option}
+use Rattle.outside.specs.Files.{Files}
 use Rattle.key_types.specs.Columns.{columns_of}
 use Rattle.table_tool.specs.Scanned.{TurnIs}
 use Rattle.table_tool.specs.declared.scan.Turn.{Turn}
-use Rattle.table_tool.specs.declared.scan.Turn.TheVariants.{On}
+use Rattle.table_tool.specs.declared.scan.Turn.TheVariants.{On, Stopped}
 use Rattle.table_tool.proofs.ScanLemmas.{bounded_same, cut_prefix, holding_pushed, pushed_on, pushed_prefix, shown_part, turned}
 use Rattle.table_tool.proofs.scan.Scan.turn_all.Goals as goal
 
@@ -40,3 +41,12 @@ turns-preserved g c =
       store_later = omega arith;
       later = omega arith;
     }
+
+pub returns-in-Ok-Stopped-clause-scanned : goal.returns-in-Ok-Stopped-clause-scanned
+returns-in-Ok-Stopped-clause-scanned g c =
+    let columns = columns_of c.args.schema.now in
+    let held = c.turns.invariant.held in
+    let there : TurnIs columns (g.K.Store.files c.turns.store) c.turns.self c.turn.new.self Stopped =
+    subst (λ (t : Turn). TurnIs columns (g.K.Store.files c.turns.store) c.turns.self c.turn.new.self t) c.in-Ok-Stopped.field-0-is c.in-Ok-Stopped.ensures.turn in
+    let turn = subst (λ (f : Option Files). TurnIs columns f c.turns.self c.turn.new.self Stopped) c.turns.invariant.same there in
+    (held.0, held.1, turn.2 held.0 held.1 held.2, ap (λ t. held.0 ++ t) turn.0 ∙ held.2.text, turn.1 ∙ held.2.count, held.3)

@@ -8,7 +8,7 @@ use Rattle.data_file.specs.Listing.{head_bytes}
 use Rattle.data_file.specs.Reading.{BeginsHead, NoHead}
 use Rattle.key_types.specs.Columns.{columns_of}
 use Rattle.key_printing.specs.Texts.{IsTextOf}
-use Rattle.table_tool.specs.declared.walk.Met.TheVariants.{Damaged}
+use Rattle.table_tool.specs.declared.walk.Walk.{Walk}
 use Rattle.table_tool.specs.Standing.{fixed_entries}
 use Rattle.table_tool.specs.Steps.{IsFixedBehind, NoFixedBehind, inside_of}
 use Rattle.table_tool.proofs.StepLemmas.{Moving, halts_end, halts_fixed, halts_head, is_outside, moves_head, prints_fixed, room_there, text_anew}
@@ -24,9 +24,10 @@ returns-then-is_empty-clause-step c = (
 pub returns-in_default-clause-step : goal.returns-in_default-clause-step
 returns-in_default-clause-step c =
     let columns = columns_of c.args.schema.now in
-    halts_head columns c.args.self.now c.args.self.now c.args.out.now c.damaged.result c.requires.outside c.requires.full
+    halts_head columns c.args.self.now c.stop_at.new.self c.args.out.now c.stop_at.result c.requires.outside c.requires.full
     (λ empty. eqb-false (length c.unread-bytes.result.now) 0 (sym c.is_empty.ensures ∙ c.if-is_empty.false) (ap length (c.unread-bytes.ensures.bytes ∙ empty)))
-    (subst (λ (b : List ℕ). NoHead columns b) c.unread-bytes.ensures.bytes (c.head_in.ensures.none (search rules))) (c.damaged.ensures ∙ ap (λ at. Damaged (damage_at at BadHead)) c.at.ensures)
+    (subst (λ (b : List ℕ). NoHead columns b) c.unread-bytes.ensures.bytes (c.head_in.ensures.none (search rules))) c.stop_at.ensures.met
+    (ap (λ (w : Walk). w.stop) c.stop_at.ensures.walk ∙ ap (λ (at : ℕ). Some (damage_at at BadHead)) c.at-at.ensures)
 
 pub returns-in_default-fixed_behind-clause-step : goal.returns-in_default-fixed_behind-clause-step
 returns-in_default-fixed_behind-clause-step c =
@@ -34,10 +35,10 @@ returns-in_default-fixed_behind-clause-step c =
     let head = 2 + length c.in-Some.key.now in
     let begins : BeginsHead columns c.unread-bytes.result.now c.in-Some.key.now = search rules in
     let no_part : NoFixedBehind columns (drop head c.unread-bytes.result.now) = c.fixed_behind.ensures.none (search rules) in
-    halts_fixed columns c.args.self.now c.args.self.now c.args.out.now c.in-Some.key.now c.damaged-in_default-fixed_behind.result head c.requires.outside c.requires.full
+    halts_fixed columns c.args.self.now c.stop_at-in_default-fixed_behind.new.self c.args.out.now c.in-Some.key.now c.stop_at-in_default-fixed_behind.result head c.requires.outside c.requires.full
     (subst (λ (b : List ℕ). BeginsHead columns b c.in-Some.key.now) c.unread-bytes.ensures.bytes begins) (omega arith)
-    (subst (λ (b : List ℕ). NoFixedBehind columns (drop head b)) c.unread-bytes.ensures.bytes no_part)
-    (c.damaged-in_default-fixed_behind.ensures ∙ ap (λ (at : ℕ). Damaged (damage_at (at + head) BadRow)) c.at-in_default-fixed_behind.ensures)
+    (subst (λ (b : List ℕ). NoFixedBehind columns (drop head b)) c.unread-bytes.ensures.bytes no_part) c.stop_at-in_default-fixed_behind.ensures.met
+    (ap (λ (w : Walk). w.stop) c.stop_at-in_default-fixed_behind.ensures.walk ∙ ap (λ (at : ℕ). Some (damage_at (at + head) BadRow)) c.at.ensures)
 
 pub returns-clause-step : goal.returns-clause-step
 returns-clause-step c =
@@ -57,7 +58,7 @@ returns-clause-step c =
     (subst (λ (n : ℕ). IsFixedBehind columns (drop n c.unread-bytes.result.now) fixed count) long part)) in
     let same : c.extend.new.self ≡ key = c.in_ok-extend.ensures.ok ∙ ap (λ (l : List ℕ). l ++ key) c.truncate.ensures in
     let has = text_anew columns.partition key c.extend.new.self c.truncate-2.new.self c.write_string.new.out same c.truncate-2.ensures c.in_ok-write_string.ensures.ok in
-    prints_fixed columns walk (record { window = c.pass.new.self; key = c.extend.new.self; text = c.write_string.new.out; inside = true }) c.args.out.now c.put_fixed.new.out fixed has
+    prints_fixed columns walk (record { window = c.pass.new.self; key = c.extend.new.self; text = c.write_string.new.out; inside = true; stop = walk.stop }) c.args.out.now c.put_fixed.new.out fixed has
     (c.in_ok-put_fixed.ensures c.extend.new.self (subst (IsTextOf columns.partition c.extend.new.self) (sym c.as_slice.ensures) has))
     (subst (λ (k : List ℕ). Moving columns walk.window c.pass.new.self (inside_of walk) (Some k) (fixed_entries k fixed)) (sym same) moves)
 
