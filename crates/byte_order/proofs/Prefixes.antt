@@ -29,3 +29,11 @@ more (x ∷ a) tail = ap (λ t. t && starts_with nat_eq (a ++ tail) a) (self x) 
 
 pub all : (a b : List ℕ) → IsPrefix a b → starts_with nat_eq b a ≡ true
 all a b p = ap (λ l. starts_with nat_eq l a) p.1 ∙ more a p.0
+
+-- ---- the parts of a list
+
+pub head_is : (a b : ℕ) (xs ys : List ℕ) → ◌≡◌ {A = List ℕ} (a ∷ xs) (b ∷ ys) → a ≡ b
+head_is a b xs ys e = cc
+
+pub tail_is : (a b : ℕ) (xs ys : List ℕ) → ◌≡◌ {A = List ℕ} (a ∷ xs) (b ∷ ys) → xs ≡ ys
+tail_is a b xs ys e = cc

@@ -1,3 +1,4 @@
+//! The order of byte strings, and prefixes. Every crate that compares strings of keys stands on it.
 ghost use Rattle.std.specs.Prelude.{◌≡◌, ◌↔◌, IsTrue};
 ghost use Rattle.byte_order.specs.Strings.{IsPrefix};
 ghost use Rattle.key_types.specs.Table.{string_cmp};
