@@ -7,7 +7,7 @@ use Rattle.std.specs.declared.cmp.Ordering.TheVariants.{Less, Equal, Greater}
 use Rattle.std.specs.Cmp.Lexicographic.{slice_cmp}
 use Rattle.key_types.specs.Kinds.{AreBytes}
 use Rattle.byte_comparable.specs.Encoding.{complement}
-use Rattle.byte_comparable.specs.Order.{Parts}
+use Rattle.byte_comparable.specs.Order.{IsDelimiter}
 
 -- the first two bytes that differ decide; the end of either decides nothing
 abbrev pub apart : List ℕ → List ℕ → Ordering
@@ -123,7 +123,7 @@ apart_complement (x ∷ xs) (y ∷ ys) h k =
 
 abbrev pub Follows : List ℕ → Type 0
 Follows [] = ⊥
-Follows (s ∷ ps) = Parts s × AreBytes ps
+Follows (s ∷ ps) = IsDelimiter s × AreBytes ps
 
 pub follows_bytes : (ps : List ℕ) → Follows ps → AreBytes ps
 follows_bytes [] h = absurd h

@@ -7,7 +7,7 @@ use Rattle.std.specs.declared.cmp.Ordering.TheVariants.{Less, Equal, Greater}
 use Rattle.std.specs.Cmp.Lexicographic.{slice_cmp}
 use Rattle.key_types.specs.Kinds.{Kind, Kinds, end, more, Val, Vals, none, and, Fits, EachFits, AreBytes, order_by, orders_by}
 use Rattle.byte_comparable.specs.Encoding.{encoding, components, key_string, bound_with, LeadFits}
-use Rattle.byte_comparable.specs.Order.{Key, KeyFits, Parts, key_order, lead_order, row_string, bound_order, bound_string_of, string_of_key, within_order, within_string}
+use Rattle.byte_comparable.specs.Order.{Key, KeyFits, IsDelimiter, key_order, lead_order, row_string, bound_order, bound_string_of, string_of_key, within_order, within_string}
 use Rattle.byte_comparable.proofs.Compare.{apart, apart_self, slice_apart, slice_front, then_then, then_equal, bytes_both, bytes_behind, Follows, follows_bytes}
 use Rattle.byte_comparable.proofs.Exactly.{both_equal, exactly, exactly_all}
 use Rattle.byte_comparable.proofs.Compose.{keeps, all_keep, are_bytes, all_are_bytes, follow_components}
@@ -32,10 +32,10 @@ closing rest h = ((omega arith, omega arith), h)
 last_bytes : AreBytes (0x38 ∷ [])
 last_bytes = (omega arith, tt)
 
-string_bytes : (ts : Kinds) (xs : Vals) → EachFits ts xs → AreBytes (key_string ts xs)
+pub string_bytes : (ts : Kinds) (xs : Vals) → EachFits ts xs → AreBytes (key_string ts xs)
 string_bytes ts xs f = bytes_both (components ts xs) (0x38 ∷ []) (all_are_bytes ts xs (leads ts xs f)) last_bytes
 
-string_order : (ts : Kinds) (xs ys : Vals) (p q : List ℕ) → EachFits ts xs → EachFits ts ys → AreBytes p → AreBytes q
+pub string_order : (ts : Kinds) (xs ys : Vals) (p q : List ℕ) → EachFits ts xs → EachFits ts ys → AreBytes p → AreBytes q
     → slice_cmp nat_cmp (key_string ts xs ++ p) (key_string ts ys ++ q) ≡ ordering_then (orders_by ts xs ys) (slice_cmp nat_cmp p q)
 string_order ts xs ys p q f g h k =
     rw (append_assoc (components ts xs) (0x38 ∷ []) p, append_assoc (components ts ys) (0x38 ∷ []) q) (all_slices ts xs ys (0x38 ∷ p) (0x38 ∷ q) f g (closing p h) (closing q k))
@@ -45,11 +45,11 @@ within_bytes cs None f = tt
 within_bytes cs (Some c) f = string_bytes cs c f
 
 -- nothing stands before every string
-before : (xs : List ℕ) (s : ℕ) → slice_cmp nat_cmp [] (xs ++ s ∷ []) ≡ Less
+pub before : (xs : List ℕ) (s : ℕ) → slice_cmp nat_cmp [] (xs ++ s ∷ []) ≡ Less
 before [] s = refl
 before (x ∷ xs) s = refl
 
-behind : (xs : List ℕ) (s : ℕ) → slice_cmp nat_cmp (xs ++ s ∷ []) [] ≡ Greater
+pub behind : (xs : List ℕ) (s : ℕ) → slice_cmp nat_cmp (xs ++ s ∷ []) [] ≡ Greater
 behind [] s = refl
 behind (x ∷ xs) s = refl
 
@@ -69,7 +69,7 @@ keys_kept ps cs a b f g =
 longer : (xs : List ℕ) (s : ℕ) (tail : List ℕ) → xs ≡ xs ++ s ∷ tail → ⊥
 longer xs s tail h = let l : length xs ≡ length xs + length (s ∷ tail) = ap length h ∙ length-append xs (s ∷ tail) in absurd (omega arith)
 
-pub weakly : (t : Kind) (a b : Val) (s : ℕ) (tail : List ℕ) → Fits t a → Fits t b → encoding t b ≡ encoding t a ++ s ∷ tail → Parts s → ⊥
+pub weakly : (t : Kind) (a b : Val) (s : ℕ) (tail : List ℕ) → Fits t a → Fits t b → encoding t b ≡ encoding t a ++ s ∷ tail → IsDelimiter s → ⊥
 weakly t a b s tail f g e parts =
     let inside : AreBytes (encoding t a ++ s ∷ tail) = subst AreBytes e (are_bytes t b g) in
     let rest = bytes_behind (encoding t a) (s ∷ tail) inside in

@@ -8,4 +8,5 @@ pub mod Numbers
 pub mod Long
 pub mod Compose
 pub mod Kept
+pub mod Ranges
 pub mod Signs

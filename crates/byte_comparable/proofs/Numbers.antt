@@ -8,7 +8,7 @@ use Rattle.std.specs.Ordering.{nat_cmp, int_cmp, ordering_then}
 use Rattle.std.specs.declared.cmp.Ordering.{Ordering}
 use Rattle.std.specs.declared.cmp.Ordering.TheVariants.{Less, Equal, Greater}
 use Rattle.key_types.specs.Kinds.{AreBytes, within}
-use Rattle.byte_comparable.specs.Encoding.{shifted}
+use Rattle.byte_comparable.specs.Encoding.{unsigned_of}
 use Rattle.byte_comparable.proofs.Compare.{apart, then_then, below, above, KeptAs}
 
 -- ---- rows and columns
@@ -89,13 +89,13 @@ abbrev pub Within : ℕ → ℤ → Type 0
 Within half (pos n) = n < half
 Within half (negsuc n) = n < half
 
-pub shifts : (half : ℕ) (x y : ℤ) → Within half x → Within half y → nat_cmp (shifted half x) (shifted half y) ≡ int_cmp x y
+pub shifts : (half : ℕ) (x y : ℤ) → Within half x → Within half y → nat_cmp (unsigned_of half x) (unsigned_of half y) ≡ int_cmp x y
 shifts half (pos m) (pos n) p q = grind (arith, nat_tests)
 shifts half (pos m) (negsuc n) p q = grind (arith, nat_tests)
 shifts half (negsuc m) (pos n) p q = grind (arith, nat_tests)
 shifts half (negsuc m) (negsuc n) p q = grind (arith, nat_tests)
 
-pub shifted_below : (half : ℕ) (x : ℤ) → Within half x → shifted half x < half + half
+pub shifted_below : (half : ℕ) (x : ℤ) → Within half x → unsigned_of half x < half + half
 shifted_below half (pos n) h = omega arith
 shifted_below half (negsuc n) h = omega arith
 
@@ -119,17 +119,17 @@ pub held : (k m n : ℕ) → m < 256 ^ k → n < 256 ^ k → KeptAs (bytes_high_
 held k m n f g p q h l =
     high_kept k m n p q ∙ ap (λ x. ordering_then (nat_cmp x (n % 256 ^ k)) (apart p q)) (small_mod m (256 ^ k) f) ∙ ap (λ x. ordering_then (nat_cmp m x) (apart p q)) (small_mod n (256 ^ k) g)
 
-signed : (k half : ℕ) (x y : ℤ) → half + half ≤ 256 ^ k → Within half x → Within half y → KeptAs (bytes_high_first k (shifted half x)) (bytes_high_first k (shifted half y)) (int_cmp x y)
+signed : (k half : ℕ) (x y : ℤ) → half + half ≤ 256 ^ k → Within half x → Within half y → KeptAs (bytes_high_first k (unsigned_of half x)) (bytes_high_first k (unsigned_of half y)) (int_cmp x y)
 signed k half x y w f g p q h l =
     let a = shifted_below half x f in
     let b = shifted_below half y g in
-    held k (shifted half x) (shifted half y) (omega arith) (omega arith) p q h l ∙ ap (λ r. ordering_then r (apart p q)) (shifts half x y f g)
+    held k (unsigned_of half x) (unsigned_of half y) (omega arith) (omega arith) p q h l ∙ ap (λ r. ordering_then r (apart p q)) (shifts half x y f g)
 
-pub tiny_kept : (x y : ℤ) → IsTrue (within (negsuc 127) (pos 128) x) → IsTrue (within (negsuc 127) (pos 128) y) → KeptAs (bytes_high_first 1 (shifted (2 ^ 7) x)) (bytes_high_first 1 (shifted (2 ^ 7) y)) (int_cmp x y)
+pub tiny_kept : (x y : ℤ) → IsTrue (within (negsuc 127) (pos 128) x) → IsTrue (within (negsuc 127) (pos 128) y) → KeptAs (bytes_high_first 1 (unsigned_of (2 ^ 7) x)) (bytes_high_first 1 (unsigned_of (2 ^ 7) y)) (int_cmp x y)
 tiny_kept x y f g = signed 1 (2 ^ 7) x y (omega arith) (in_7 x f) (in_7 y g)
 
-pub small_kept : (x y : ℤ) → IsTrue (within (negsuc 32767) (pos 32768) x) → IsTrue (within (negsuc 32767) (pos 32768) y) → KeptAs (bytes_high_first 2 (shifted (2 ^ 15) x)) (bytes_high_first 2 (shifted (2 ^ 15) y)) (int_cmp x y)
+pub small_kept : (x y : ℤ) → IsTrue (within (negsuc 32767) (pos 32768) x) → IsTrue (within (negsuc 32767) (pos 32768) y) → KeptAs (bytes_high_first 2 (unsigned_of (2 ^ 15) x)) (bytes_high_first 2 (unsigned_of (2 ^ 15) y)) (int_cmp x y)
 small_kept x y f g = signed 2 (2 ^ 15) x y (omega arith) (in_15 x f) (in_15 y g)
 
-pub int_kept : (x y : ℤ) → IsTrue (within (negsuc 2147483647) (pos 2147483648) x) → IsTrue (within (negsuc 2147483647) (pos 2147483648) y) → KeptAs (bytes_high_first 4 (shifted (2 ^ 31) x)) (bytes_high_first 4 (shifted (2 ^ 31) y)) (int_cmp x y)
+pub int_kept : (x y : ℤ) → IsTrue (within (negsuc 2147483647) (pos 2147483648) x) → IsTrue (within (negsuc 2147483647) (pos 2147483648) y) → KeptAs (bytes_high_first 4 (unsigned_of (2 ^ 31) x)) (bytes_high_first 4 (unsigned_of (2 ^ 31) y)) (int_cmp x y)
 int_kept x y f g = signed 4 (2 ^ 31) x y (omega arith) (in_31 x f) (in_31 y g)

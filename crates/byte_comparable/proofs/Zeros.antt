@@ -8,7 +8,7 @@ use Rattle.std.specs.declared.cmp.Ordering.{Ordering}
 use Rattle.std.specs.declared.cmp.Ordering.TheVariants.{Less, Equal, Greater}
 use Rattle.std.specs.Cmp.Lexicographic.{slice_cmp}
 use Rattle.key_types.specs.Kinds.{AreBytes}
-use Rattle.byte_comparable.specs.Encoding.{escaped, escaped_after, zeros}
+use Rattle.byte_comparable.specs.Encoding.{escaped, escaped_after, zero_run}
 use Rattle.byte_comparable.specs.Bytewise.{bytewise}
 use Rattle.byte_comparable.proofs.Compare.{apart, Follows, below, above}
 
@@ -91,7 +91,7 @@ all_again : (k x : ℕ) → replicate k x ++ x ∷ [] ≡ replicate (suc k) x
 all_again zero x = refl
 all_again (suc k) x = ap (λ l. x ∷ l) (all_again k x)
 
-no_zero : (k b : ℕ) (bs : List ℕ) → escaped_after k (suc b ∷ bs) ≡ zeros k ++ suc b ∷ escaped bs
+no_zero : (k b : ℕ) (bs : List ℕ) → escaped_after k (suc b ∷ bs) ≡ zero_run k ++ suc b ∷ escaped bs
 no_zero k b bs = let e : (suc b == 0) ≡ false = grind (arith, nat_tests) in rw e refl
 
 mutual

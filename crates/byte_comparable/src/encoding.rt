@@ -1,3 +1,5 @@
+//! The bytes of one value, appended to a string: strings of keys are put together of them, and `key_spelling` calls
+//! `encode_bytes` where it spells a text straight.
 ghost use Rattle.std.specs.Prelude.{◌≡◌, ◌≤◌, ◌<◌, ◌+◌, ◌^◌, ◌++◌, ◌==◌, take, length, OnOk, OnErr, IfOk, if◌then◌else◌};
 ghost use Rattle.key_types.specs.Kinds.{kind_of, kinds_of, value_of, values_of, Fits, EachFits};
 ghost use Rattle.byte_comparable.specs.Encoding.{encoding, components, escaped, long_bytes, big_bytes, complement};

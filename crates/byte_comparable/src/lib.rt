@@ -9,6 +9,8 @@ mod strings;
 #[cfg(test)]
 mod tests;
 
-pub use encoding::{encode_bytes, encode_into};
+pub use encoding::{SEPARATOR, TERMINATOR, encode_bytes, encode_into};
 pub use laws::{law_order, law_prefix_free, law_range, law_weakly_prefix_free};
-pub use strings::{KeyError, Side, bound_string, clustering_string, partition_string};
+pub use strings::{
+    KeyError, LONGEST_STRING, Side, bound_string, clustering_string, partition_string,
+};

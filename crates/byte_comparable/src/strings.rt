@@ -1,24 +1,31 @@
+//! The strings of partitions, of rows within them and of bounds, from values that need not fit: what has no string is
+//! refused.
 ghost use Rattle.std.specs.Prelude.{◌≡◌, ◌≤◌, ◌<◌, ◌+◌, ◌^◌, ◌++◌, [], nat_eq, nat_le, IfNone, IfOk, OnOk};
 ghost use Rattle.byte_comparable.specs.declared.strings.KeyError.TheVariants.{NoMemory};
 ghost use Rattle.key_types.specs.Kinds.{kinds_of, values_of};
 ghost use Rattle.key_types.specs.Layout.{count_of};
 ghost use Rattle.byte_comparable.specs.Encoding.{components, bound_with, LeadFits};
-ghost use Rattle.byte_comparable.specs.Strings.{value_count, string_of, bound_of, last_of, first_misfit_from, checked, Answers};
+ghost use Rattle.byte_comparable.specs.Strings.{value_count, string_of, bound_of, last_of, first_misfit_from, checked_string, AnswersString};
 
 use crate::encoding::{SEPARATOR, TERMINATOR, encode_into};
 use key_types::{ByteList, KeyBytes, NoMemory, Schema, TypeList, ValueList, fits};
 use std::alloc::Global;
+use thiserror::Error;
 
 /// Why values have no string.
-#[derive(Clone, Copy, Debug, PartialEq, Eq)]
+#[derive(Clone, Copy, Debug, PartialEq, Eq, Error)]
 pub enum KeyError {
     /// There are not as many values as components; for a bound, there are more.
+    #[error("wrong count of values")]
     WrongCount,
     /// The value at this place, from 0, is the first that doesn't fit its type.
+    #[error("value {0} does not fit its type")]
     WrongType(usize),
     /// The string would have this many bytes, which is over 1,024.
+    #[error("the string would have {0} bytes")]
     TooLong(usize),
     /// Memory ran out.
+    #[error("out of memory")]
     NoMemory,
 }
 
@@ -33,18 +40,22 @@ impl From<NoMemory> for KeyError {
 /// The side of the rows of a bound on which its string lies.
 #[derive(Clone, Copy, Debug, PartialEq, Eq)]
 pub enum Side {
+    /// Before them.
     Before,
+    /// Behind them.
     After,
 }
 
 /// The greatest length of a string, in bytes.
-const LONGEST: usize = 1024;
+pub const LONGEST_STRING: usize = 1024;
 
 /// The room, in bytes, that a string is given at first, so that most never grow.
 const ROOM: usize = 24;
 
+/// The last byte of a bound string before the rows: it is below the separator and the terminator.
 const BEFORE: u8 = 0x20;
 
+/// The last byte of a bound string behind the rows: it is above the separator and the terminator.
 const AFTER: u8 = 0x60;
 
 /// Whether there are as many values as types.
@@ -119,7 +130,7 @@ fn string_with(
     requires { count_of (kinds_of kinds.now) ≤ 8 }
     ensures { let kinds = kinds_of kinds.now in
         let values = values_of values.now in
-        Answers result (checked (first_misfit_from 0 kinds values) (bound_with last kinds values)) }
+        AnswersString result (checked_string (first_misfit_from 0 kinds values) (bound_with last kinds values)) }
 {
     if let Some(at) = first_misfit(0, kinds, values) {
         return Err(KeyError::WrongType(at));
@@ -127,7 +138,7 @@ fn string_with(
     let mut string = empty_string(alloc)?;
     put_leading(kinds, values, &mut string)?;
     string.push(last)?;
-    if string.len() > LONGEST {
+    if string.len() > LONGEST_STRING {
         return Err(KeyError::TooLong(string.len()));
     }
     Ok(string)
@@ -136,7 +147,7 @@ fn string_with(
 /// The string of all components.
 fn whole_string(alloc: Global, kinds: &TypeList, values: &ValueList) -> Result<KeyBytes, KeyError>
     requires { count_of (kinds_of kinds.now) ≤ 8 }
-    ensures { Answers result (string_of (kinds_of kinds.now) (values_of values.now)) }
+    ensures { AnswersString result (string_of (kinds_of kinds.now) (values_of values.now)) }
 {
     if !same_count(kinds, values) {
         return Err(KeyError::WrongCount);
@@ -144,7 +155,7 @@ fn whole_string(alloc: Global, kinds: &TypeList, values: &ValueList) -> Result<K
     string_with(alloc, kinds, values, TERMINATOR)
 }
 
-/// The string of a partition: 0x40 and the encoding for each component, then 0x38.
+/// The string of a partition: the separator and the encoding for each component, then the terminator.
 ///
 /// The refusals come in the order of `KeyError`; only want of memory is free.
 pub fn partition_string(
@@ -152,12 +163,12 @@ pub fn partition_string(
     schema: &Schema,
     values: &ValueList,
 ) -> Result<KeyBytes, KeyError>
-    ensures { Answers result (string_of (kinds_of schema.now.partition) (values_of values.now)) }
+    ensures { AnswersString result (string_of (kinds_of schema.now.partition) (values_of values.now)) }
 {
     whole_string(alloc, &schema.partition, values)
 }
 
-/// The string of a row within its partition: 0x40 and the encoding for each component, then 0x38.
+/// The string of a row within its partition: the separator and the encoding for each component, then the terminator.
 ///
 /// The refusals come in the order of `KeyError`; only want of memory is free.
 pub fn clustering_string(
@@ -165,13 +176,13 @@ pub fn clustering_string(
     schema: &Schema,
     values: &ValueList,
 ) -> Result<KeyBytes, KeyError>
-    ensures { Answers result (string_of (kinds_of schema.now.clustering) (values_of values.now)) }
+    ensures { AnswersString result (string_of (kinds_of schema.now.clustering) (values_of values.now)) }
 {
     whole_string(alloc, &schema.clustering, values)
 }
 
-/// The string that lies on a side of all rows of a partition with these leading clustering components: 0x40 and
-/// the encoding for each of them, then 0x20 or 0x60.
+/// The string that lies on a side of all rows of a partition with these leading clustering components:
+/// the separator and the encoding for each of them, then the last byte of the side.
 ///
 /// The refusals come in the order of `KeyError`; only want of memory is free.
 pub fn bound_string(
@@ -180,7 +191,7 @@ pub fn bound_string(
     values: &ValueList,
     side: Side,
 ) -> Result<KeyBytes, KeyError>
-    ensures { Answers result (bound_of side (kinds_of schema.now.clustering) (values_of values.now)) }
+    ensures { AnswersString result (bound_of side (kinds_of schema.now.clustering) (values_of values.now)) }
 {
     if !at_most(&schema.clustering, values) {
         return Err(KeyError::WrongCount);

@@ -1,3 +1,4 @@
+//! Vectors of encodings and of strings.
 ghost use Rattle.std.specs.Prelude.{◌≡◌, IfOk, IsTrue};
 ghost use Rattle.key_types.specs.Kinds.{kind_of, kinds_of, more, end, tuple, int, text};
 ghost use Rattle.key_types.specs.Layout.{is_layout_by};

@@ -8,7 +8,7 @@ use Rattle.command_line.specs.Grammar.{tool}
 use Rattle.command_line.specs.Reading.{found_in, is_faultless}
 use Rattle.command_line.specs.declared.command.WordsError.{WordsError}
 use Rattle.command_line.specs.declared.command.WordsError.TheVariants.{Usage, NoMemory}
-use Rattle.command_line.specs.Said.{Answers}
+use Rattle.command_line.specs.Said.{AnswersCommand}
 
 pub tool_is_simple : is_simple_and_free tool ≡ true
 unfolding clap_on_literals
@@ -49,6 +49,6 @@ found_ok {P} app words rows is none at =
     rw (h, sym r.1) refl
 
 pub answers_err : {X Y : Type 0} (view : X → Y) (e : WordsError) (expected : Result Y WordsError)
-    → (e ≡ Usage → expected ≡ Err Usage) → Answers view (Err e) expected
+    → (e ≡ Usage → expected ≡ Err Usage) → AnswersCommand view (Err e) expected
 answers_err view Usage expected h = h refl
 answers_err view NoMemory expected h = tt

@@ -34,7 +34,7 @@ said_of command.Scan = scan
 said_of (command.Key arguments) = key (string_bytes arguments.schema) arguments.clustering (way_of arguments.way)
 
 -- the answer is the expected one as `view` sees it, or memory ran out
-abbrev pub Answers : {X Y : Type 0} → (X → Y) → Result X WordsError → Result Y WordsError → Type 0
-Answers view (Ok x) expected = expected ≡ Ok (view x)
-Answers view (Err Usage) expected = expected ≡ Err Usage
-Answers view (Err NoMemory) expected = Unit {0}
+abbrev pub AnswersCommand : {X Y : Type 0} → (X → Y) → Result X WordsError → Result Y WordsError → Type 0
+AnswersCommand view (Ok x) expected = expected ≡ Ok (view x)
+AnswersCommand view (Err Usage) expected = expected ≡ Err Usage
+AnswersCommand view (Err NoMemory) expected = Unit {0}

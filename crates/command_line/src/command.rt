@@ -1,5 +1,6 @@
 //! What the words ask for.
 use std::alloc::AllocError;
+use thiserror::Error;
 
 /// The values of `list`.
 #[derive(Debug, Drop)]
@@ -49,11 +50,13 @@ pub enum Command {
 }
 
 /// Why no command was read.
-#[derive(Clone, Copy, Debug, PartialEq, Eq)]
+#[derive(Clone, Copy, Debug, PartialEq, Eq, Error)]
 pub enum WordsError {
     /// The words are not those of a command.
+    #[error("the words are not those of a command")]
     Usage,
     /// Memory ran out.
+    #[error("out of memory")]
     NoMemory,
 }
 

@@ -3,7 +3,7 @@ ghost use Rattle.std.specs.Prelude.{◌≡◌, codes, option_map};
 ghost use Rattle.clap.specs.Words.{found_of, rows_of, first_of, subcommand_rows_of};
 ghost use Rattle.std.specs.String.{string_bytes};
 ghost use Rattle.command_line.specs.Reading.{is_set, needed_text, one_way};
-ghost use Rattle.command_line.specs.Said.{Answers, way_of};
+ghost use Rattle.command_line.specs.Said.{AnswersCommand, way_of};
 
 use crate::command::{KeyWay, WordsError};
 use clap::ArgMatches;
@@ -25,7 +25,7 @@ pub fn given<'a>(matches: &ArgMatches<'a>, name: &str) -> Option<&'a str>
 
 /// The text that stands for a required argument.
 pub fn needed_text(alloc: Global, matches: &ArgMatches, name: &str) -> Result<String, WordsError>
-    ensures { Answers string_bytes result (needed_text (first_of name.now (rows_of (found_of matches.now)))) }
+    ensures { AnswersCommand string_bytes result (needed_text (first_of name.now (rows_of (found_of matches.now)))) }
 {
     match given(matches, name) {
         Some(text) => Ok(String::from_str(alloc, text)?),
@@ -46,7 +46,7 @@ pub fn is_set(matches: &ArgMatches, name: &str) -> bool
 /// What `key` is to do, where exactly one of its two options is there.
 pub fn one_way(alloc: Global, matches: &ArgMatches) -> Result<KeyWay, WordsError>
     ensures { let rows = rows_of (found_of matches.now) in
-        Answers way_of result (one_way (first_of (codes "encode") rows) (first_of (codes "decode") rows)) }
+        AnswersCommand way_of result (one_way (first_of (codes "encode") rows) (first_of (codes "decode") rows)) }
 {
     match (given(matches, "encode"), given(matches, "decode")) {
         (Some(list), None) => Ok(KeyWay::Encode(String::from_str(alloc, list)?)),

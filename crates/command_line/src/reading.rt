@@ -4,7 +4,7 @@ ghost use Rattle.std.specs.List.{list_any};
 ghost use Rattle.std.specs.String.{string_bytes};
 ghost use Rattle.clap.specs.Words.{found_of, kind_of, rows_of, subcommand_rows_of};
 ghost use Rattle.command_line.specs.Reading.{command_of, found_in, is_refused, key_in, list_in, load_in, said_by};
-ghost use Rattle.command_line.specs.Said.{Answers, said_of};
+ghost use Rattle.command_line.specs.Said.{AnswersCommand, said_of};
 
 use crate::command::{Command, KeyArguments, ListArguments, LoadArguments, WordsError};
 use crate::declared::tool;
@@ -44,7 +44,7 @@ fn error_of(e: Error) -> WordsError
 }
 
 fn matches_of<'a>(alloc: Global, words: &'a [String]) -> Result<ArgMatches<'a>, WordsError>
-    ensures { Answers subcommand_rows_of result (found_in (map string_bytes words.entry.now)) }
+    ensures { AnswersCommand subcommand_rows_of result (found_in (map string_bytes words.entry.now)) }
 {
     match tool(alloc)?.try_get_matches_from(words) {
         Ok(matches) => Ok(matches),
@@ -53,21 +53,21 @@ fn matches_of<'a>(alloc: Global, words: &'a [String]) -> Result<ArgMatches<'a>, 
 }
 
 fn list(alloc: Global, matches: &ArgMatches) -> Result<Command, WordsError>
-    ensures { Answers said_of result (list_in (rows_of (found_of matches.now))) }
+    ensures { AnswersCommand said_of result (list_in (rows_of (found_of matches.now))) }
 {
     let schema = needed_text(alloc, matches, "schema")?;
     Ok(Command::List(ListArguments { schema }))
 }
 
 fn load(alloc: Global, matches: &ArgMatches) -> Result<Command, WordsError>
-    ensures { Answers said_of result (load_in (rows_of (found_of matches.now))) }
+    ensures { AnswersCommand said_of result (load_in (rows_of (found_of matches.now))) }
 {
     let schema = needed_text(alloc, matches, "schema")?;
     Ok(Command::Load(LoadArguments { schema }))
 }
 
 fn key(alloc: Global, matches: &ArgMatches) -> Result<Command, WordsError>
-    ensures { Answers said_of result (key_in (rows_of (found_of matches.now))) }
+    ensures { AnswersCommand said_of result (key_in (rows_of (found_of matches.now))) }
 {
     let schema = needed_text(alloc, matches, "schema")?;
     let way = one_way(alloc, matches)?;
@@ -80,7 +80,7 @@ fn key(alloc: Global, matches: &ArgMatches) -> Result<Command, WordsError>
 }
 
 fn command(alloc: Global, name: &str, matches: &ArgMatches) -> Result<Command, WordsError>
-    ensures { Answers said_of result (said_by name.now (rows_of (found_of matches.now))) }
+    ensures { AnswersCommand said_of result (said_by name.now (rows_of (found_of matches.now))) }
 {
     match name {
         "list" => list(alloc, matches),
@@ -94,7 +94,7 @@ fn command(alloc: Global, name: &str, matches: &ArgMatches) -> Result<Command, W
 /// The command that the words ask for. `Usage` comes exactly where a word asks for help or a version,
 /// where the declared command line does not take the words, or where a value is refused.
 pub fn read_words(alloc: Global, words: &[String]) -> Result<Command, WordsError>
-    ensures { Answers said_of result (command_of (map string_bytes words.now)) }
+    ensures { AnswersCommand said_of result (command_of (map string_bytes words.now)) }
 {
     if has_refused(words) {
         return Err(WordsError::Usage);

@@ -1,3 +1,4 @@
+//! Vectors of words.
 use crate::{Command, KeyArguments, KeyWay, WordsError, read_words};
 use std::alloc::{AllocError, Global};
 

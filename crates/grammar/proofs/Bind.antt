@@ -1,6 +1,7 @@
 -- Two exact readings, one after the other, are an exact reading.
 use Rattle.std.proofs.Common.{◌≡◌, ℕ, List, [], ◌∷◌, ◌++◌, Result, Ok, Err, refl, sym, ◌∙◌, ap, append_assoc}
-use Rattle.grammar.specs.Exact.{Read, Exact, StopsAt, Begins, AreBytes}
+use Rattle.grammar.specs.Exact.{Read, Exact, StopsAt, Begins}
+use Rattle.key_types.specs.Kinds.{AreBytes}
 use Rattle.grammar.proofs.Octets.{bytes_both}
 use Rattle.grammar.specs.Reading.{bind, then_read, Then}
 

@@ -3,7 +3,7 @@ use Rattle.std.proofs.Common.{◌≡◌, ℕ, ◌+◌, ◌≤◌, Bool, true, fa
 use Rattle.std.specs.Prelude.{min, nat_le}
 use Rattle.std.proofs.lemmas.Bool.Decides.{nat_tests}
 use Rattle.grammar.specs.Exact.{Read, Exact, StopsAt, Begins}
-use Rattle.grammar.specs.Reading.{or_else, further, either, Either}
+use Rattle.grammar.specs.Reading.{or_else, further_stop, either, Either}
 
 min_first : (m n : ℕ) → m ≤ n → min m n ≡ m
 min_first m n h = grind (arith, nat_tests)
@@ -35,7 +35,7 @@ module _ {A : Type 0} (r s : Read A) (First Second : A → List ℕ → Type 0) 
   all a front rest (inl i) h = ap (λ x. or_else x (s (front ++ rest))) (one.all a front rest i h)
   all a front rest (inr i) h =
       let o = others a front rest i h in
-      ap (λ x. or_else x (s (front ++ rest))) o.1 ∙ ap (further o.0) (two.all a front rest i h)
+      ap (λ x. or_else x (s (front ++ rest))) o.1 ∙ ap (further_stop o.0) (two.all a front rest i h)
 
   next_by : (x y : Result (A × List ℕ) ℕ) (text : List ℕ) (a : A) (b : ℕ) (bs : List ℕ) → r text ≡ x → s text ≡ y → or_else x y ≡ Ok (a, b ∷ bs) → follow a b
   next_by (Ok x) y text a b bs e g h = one.next text a b bs (e ∙ h)
@@ -71,7 +71,7 @@ module _ {A : Type 0} (r s : Read A) (First Second : A → List ℕ → Type 0) 
         goes_on = (p.goes_on.0, p.goes_on.1, inl p.goes_on.2, p.goes_on.3);
         no_further = λ b bs is cs.
             let other = earlier s Second text m q p.front p.rest p.parts (let k = p.count in omega arith) b bs is cs in
-            ap (λ x. or_else x (s (p.front ++ b ∷ cs))) (p.no_further b bs is cs) ∙ ap (further (length (b ∷ cs))) other.1 ∙ ap Err (min_first (length (b ∷ cs)) other.0 other.2);
+            ap (λ x. or_else x (s (p.front ++ b ∷ cs))) (p.no_further b bs is cs) ∙ ap (further_stop (length (b ∷ cs))) other.1 ∙ ap Err (min_first (length (b ∷ cs)) other.0 other.2);
       }
   stops_both false text n m left e g t h =
       let le : m ≤ n = grind (arith, nat_tests) in
@@ -85,7 +85,7 @@ module _ {A : Type 0} (r s : Read A) (First Second : A → List ℕ → Type 0) 
         goes_on = (q.goes_on.0, q.goes_on.1, inr q.goes_on.2, q.goes_on.3);
         no_further = λ b bs is cs.
             let other = earlier r First text n p q.front q.rest q.parts (let k = q.count in omega arith) b bs is cs in
-            ap (λ x. or_else x (s (q.front ++ b ∷ cs))) other.1 ∙ ap (further other.0) (q.no_further b bs is cs) ∙ ap Err (min_second other.0 (length (b ∷ cs)) other.2);
+            ap (λ x. or_else x (s (q.front ++ b ∷ cs))) other.1 ∙ ap (further_stop other.0) (q.no_further b bs is cs) ∙ ap Err (min_second other.0 (length (b ∷ cs)) other.2);
       }
 
   stops_by : (x y : Result (A × List ℕ) ℕ) (text : List ℕ) (left : ℕ) → r text ≡ x → s text ≡ y → or_else x y ≡ Err left → StopsAt (either r s) (Either First Second) text left

@@ -1,8 +1,9 @@
 -- One of several words is read exactly, where each two of them differ somewhere.
 use Rattle.std.proofs.Common.{◌≡◌, ℕ, ◌+◌, ◌==◌, Bool, true, false, cond, List, [], ◌∷◌, ◌++◌, length, Result, Ok, Err, refl, sym, ◌∙◌, ap, subst, append_assoc, inl, inr}
 use Rattle.std.specs.Prelude.{⊤, ◌&&◌, if◌then◌else◌, replicate}
-use Rattle.grammar.specs.Exact.{Exact, AreBytes}
-use Rattle.grammar.specs.Reading.{literal, token, gap, IsToken, AfterGap, NoSpace, spaces_at, AreSpaces, without_spaces, bind, mapped, word_at, IsWord, one_of, IsOneOf}
+use Rattle.grammar.specs.Exact.{Exact}
+use Rattle.key_types.specs.Kinds.{AreBytes}
+use Rattle.grammar.specs.Reading.{given_at, token, gap_at, IsToken, AfterGap, NoSpace, spaces_at, AreSpaces, without_spaces, bind, mapped, named_word_at, IsWord, one_of, IsOneOf}
 use Rattle.grammar.proofs.Tokens.{token_exact, token_heads, skipped, skips, no_space_left}
 use Rattle.grammar.proofs.Map.{map_exact}
 use Rattle.grammar.proofs.Choice.{either_exact}
@@ -51,11 +52,11 @@ both true b h = (refl, h)
 both false b h = cc
 
 abbrev Fails : List ℕ → List ℕ → Type 0
-Fails w text = (n : ℕ) × (literal w text ≡ Err n)
+Fails w text = (n : ℕ) × (given_at w text ≡ Err n)
 
 fails_by : (t : Bool) (c b : ℕ) (cs bs rest : List ℕ) → (b == c) ≡ t → cond t (differ cs bs) true ≡ true → (differ cs bs ≡ true → Fails cs (bs ++ rest)) → Fails (c ∷ cs) (b ∷ (bs ++ rest))
-fails_by true c b cs bs rest e h f = let p = f h in (p.0, ap (λ t. cond {A = Result (⊤ × List ℕ) ℕ} t (literal cs (bs ++ rest)) (Err (length (bs ++ rest) + 1))) e ∙ p.1)
-fails_by false c b cs bs rest e h f = (length (bs ++ rest) + 1, ap (λ t. cond {A = Result (⊤ × List ℕ) ℕ} t (literal cs (bs ++ rest)) (Err (length (bs ++ rest) + 1))) e)
+fails_by true c b cs bs rest e h f = let p = f h in (p.0, ap (λ t. cond {A = Result (⊤ × List ℕ) ℕ} t (given_at cs (bs ++ rest)) (Err (length (bs ++ rest) + 1))) e ∙ p.1)
+fails_by false c b cs bs rest e h f = (length (bs ++ rest) + 1, ap (λ t. cond {A = Result (⊤ × List ℕ) ℕ} t (given_at cs (bs ++ rest)) (Err (length (bs ++ rest) + 1))) e)
 
 fails : (w v rest : List ℕ) → differ w v ≡ true → Fails w (v ++ rest)
 fails [] v rest h = cc
@@ -66,7 +67,7 @@ abbrev pub AfterWord : {A : Type 0} → A × Bool → ℕ → Type 0
 AfterWord x b = AfterGap true x.1 b
 
 module _ {A : Type 0} where
-  word_exact : (x : List ℕ × A) → AreBytes x.0 → Exact (word_at x) (IsWord x) AfterWord
+  word_exact : (x : List ℕ × A) → AreBytes x.0 → Exact (named_word_at x) (IsWord x) AfterWord
   word_exact x w = map_exact (λ (s : Bool). (x.1, s)) (token true x.0) (IsToken x.0) (AfterGap true) AfterWord (token_exact true x.0 w) (λ s c h. h) (λ s c h. h)
 
   begins_one : (x : List ℕ × A) (w : List ℕ) (a : A × Bool) (text rest : List ℕ) → differ w x.0 ≡ true → IsWord x a text → Fails w (text ++ rest)
@@ -84,7 +85,7 @@ module _ {A : Type 0} where
   one_of_exact x [] w d = word_exact x w
   one_of_exact x (y ∷ ys) w d =
       let e = both (differs_from x.0 y ys) (all_differ y ys) d in
-      either_exact (word_at x) (one_of y ys) (IsWord x) (IsOneOf y ys) AfterWord (word_exact x w.0) (one_of_exact y ys w.1 e.1)
+      either_exact (named_word_at x) (one_of y ys) (IsWord x) (IsOneOf y ys) AfterWord (word_exact x w.0) (one_of_exact y ys w.1 e.1)
       (λ a text rest is h.
       let f = begins_word y ys x.0 a text rest e.0 is in
-      (f.0, ap (λ g. mapped (λ (s : Bool). (x.1, s)) (bind g (λ _. gap true))) f.1))
+      (f.0, ap (λ g. mapped (λ (s : Bool). (x.1, s)) (bind g (λ _. gap_at true))) f.1))

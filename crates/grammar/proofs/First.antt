@@ -2,6 +2,7 @@
 use Rattle.std.proofs.Common.{◌≡◌, ℕ, Bool, true, false, cond, List, [], ◌∷◌, ◌++◌, length, Ok, Err, refl, sym, ◌∙◌, ap, subst, inl, inr}
 use Rattle.grammar.specs.Exact.{Read, Exact, StopsAt, Viable, Begins}
 use Rattle.grammar.specs.Reading.{by_first, Either}
+use Rattle.grammar.proofs.Front.{stops_empty}
 
 module _ {A : Type 0} (test : ℕ → Bool) (r s : Read A) (First Second : A → List ℕ → Type 0) (follow : A → ℕ → Type 0)
     (one : Exact r First follow) (two : Exact s Second follow)
@@ -71,14 +72,7 @@ module _ {A : Type 0} (test : ℕ → Bool) (r s : Read A) (First Second : A →
       }
 
   stops : (text : List ℕ) (left : ℕ) → by_first test r s text ≡ Err left → StopsAt (by_first test r s) (Either First Second) text left
-  stops [] left h = record {
-    front = [];
-    rest = [];
-    parts = refl;
-    count = (let e : left ≡ 0 = cc in e);
-    goes_on = (some.0, some.1, inl some.2, some.3);
-    no_further = λ d ds is cs. cc;
-  }
+  stops [] left h = stops_empty _ _ left (let e : left ≡ 0 = cc in e) (some.0, some.1, inl some.2, some.3)
   stops (b ∷ bs) left h = stops_by (test b) b bs left refl h
 
   pub first_exact : Exact (by_first test r s) (Either First Second) follow

@@ -1,4 +1,5 @@
 pub mod Octets
+pub mod Front
 pub mod Bind
 pub mod Choice
 pub mod First

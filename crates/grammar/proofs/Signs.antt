@@ -1,12 +1,14 @@
 -- Signs are read exactly, and readings one after the other of which each begins with no space.
 use Rattle.std.proofs.Common.{◌≡◌, ℕ, ◌+◌, ◌<◌, ◌==◌, Bool, true, false, cond, List, [], ◌∷◌, ◌++◌, length, Result, Ok, Err, refl, sym, ◌∙◌, ap, subst, add-one}
 use Rattle.std.specs.Prelude.{⊤, replicate}
-use Rattle.grammar.specs.Exact.{Read, Exact, StopsAt, Begins, AreBytes}
+use Rattle.grammar.specs.Exact.{Read, Exact, StopsAt, Begins}
+use Rattle.key_types.specs.Kinds.{AreBytes}
 use Rattle.grammar.specs.Reading.{without_spaces, sign_at, IsSign, NoSpace, then_read, Then, Mapped, IsToken, IsEnd}
 use Rattle.std.proofs.lemmas.List.{append-nil}
 use Rattle.grammar.proofs.Octets.{bytes_both}
 use Rattle.grammar.proofs.Tokens.{same_byte, self, skipped, no_space_left, skips}
 use Rattle.grammar.proofs.Bind.{bind_exact}
+use Rattle.grammar.proofs.Front.{stops_first, stops_empty}
 
 abbrev GotSign : Type 0
 GotSign = Result (⊤ × List ℕ) ℕ
@@ -35,17 +37,10 @@ sign_stops_by : (t : Bool) (c b : ℕ) (bs : List ℕ) (left : ℕ) → c < 256 
 sign_stops_by true c b bs left w e h = cc
 sign_stops_by false c b bs left w e h =
     let k : left ≡ length bs + 1 = cc in
-    record {
-      front = [];
-      rest = b ∷ bs;
-      parts = refl;
-      count = k ∙ add-one (length bs);
-      goes_on = (c ∷ [], tt, (0, refl), (w, tt));
-      no_further = λ d ds is xs. let same : b ≡ d = cc in subst (λ (x : ℕ). sign_at c (x ∷ xs) ≡ Err (length (x ∷ xs))) same (rw (e, add-one) refl);
-    }
+    stops_first (sign_at c) _ b bs left (k ∙ add-one (length bs)) (c ∷ [], tt, (0, refl), (w, tt)) (λ xs. (rw (e, add-one) refl))
 
 sign_stops : (c : ℕ) (text : List ℕ) (left : ℕ) → c < 256 → sign_at c text ≡ Err left → StopsAt (sign_at c) (IsSign c) text left
-sign_stops c [] left w h = record { front = []; rest = []; parts = refl; count = (let e : left ≡ 0 = cc in e); goes_on = (c ∷ [], tt, (0, refl), (w, tt)); no_further = λ d ds is xs. cc }
+sign_stops c [] left w h = stops_empty _ _ left (let e : left ≡ 0 = cc in e) (c ∷ [], tt, (0, refl), (w, tt))
 sign_stops c (b ∷ bs) left w h = sign_stops_by (b == c) c b bs left w refl h
 
 pub sign_exact : (c : ℕ) → c < 256 → Exact (sign_at c) (IsSign c) (λ _. NoSpace)

@@ -2,9 +2,11 @@
 use Rattle.std.proofs.Common.{◌≡◌, ℕ, zero, suc, ◌+◌, ◌==◌, Bool, true, false, cond, List, [], ◌∷◌, ◌++◌, length, Result, Ok, Err, refl, sym, ◌∙◌, ap, arith, subst, add-one}
 use Rattle.std.specs.Prelude.{⊤, replicate, ◌&&◌}
 use Rattle.std.proofs.lemmas.Bool.Decides.{nat_tests}
-use Rattle.grammar.specs.Exact.{Exact, StopsAt, Begins, AreBytes}
-use Rattle.grammar.specs.Reading.{literal, IsLiteral, without_spaces, is_letter, gap, IsGap, AfterGap, ends, IsEnd, token, IsToken}
+use Rattle.grammar.specs.Exact.{Exact, StopsAt, Begins}
+use Rattle.key_types.specs.Kinds.{AreBytes}
+use Rattle.grammar.specs.Reading.{given_at, IsGiven, without_spaces, is_letter, gap_at, IsGap, AfterGap, ends, IsEnd, token, IsToken}
 use Rattle.grammar.proofs.Bind.{bind_exact}
+use Rattle.grammar.proofs.Front.{stops_first, stops_empty}
 
 pub same_byte : (b c : ℕ) → (b == c) ≡ true → b ≡ c
 same_byte b c e = grind (arith, nat_tests)
@@ -15,9 +17,9 @@ self b = grind (arith, nat_tests)
 -- ---- given bytes
 
 abbrev FoundLiteral : List ℕ → List ℕ → Type 0
-FoundLiteral w bs = (a : ⊤) (rest : List ℕ) → literal w bs ≡ Ok (a, rest) → bs ≡ w ++ rest
+FoundLiteral w bs = (a : ⊤) (rest : List ℕ) → given_at w bs ≡ Ok (a, rest) → bs ≡ w ++ rest
 
-literal_by : (t : Bool) (c b : ℕ) (cs bs : List ℕ) (a : ⊤) (rest : List ℕ) → (b == c) ≡ t → cond {A = Result (⊤ × List ℕ) ℕ} t (literal cs bs) (Err (length bs + 1)) ≡ Ok (a, rest) → FoundLiteral cs bs → b ∷ bs ≡ c ∷ (cs ++ rest)
+literal_by : (t : Bool) (c b : ℕ) (cs bs : List ℕ) (a : ⊤) (rest : List ℕ) → (b == c) ≡ t → cond {A = Result (⊤ × List ℕ) ℕ} t (given_at cs bs) (Err (length bs + 1)) ≡ Ok (a, rest) → FoundLiteral cs bs → b ∷ bs ≡ c ∷ (cs ++ rest)
 literal_by true c b cs bs a rest e h f = ap (λ x. x ∷ bs) (same_byte b c e) ∙ ap (λ l. c ∷ l) (f a rest h)
 literal_by false c b cs bs a rest e h f = cc
 
@@ -26,14 +28,14 @@ found_literal [] bs a rest h = let pairs : ◌≡◌ {A = ⊤ × List ℕ} (tt, 
 found_literal (c ∷ cs) [] a rest h = cc
 found_literal (c ∷ cs) (b ∷ bs) a rest h = literal_by (b == c) c b cs bs a rest refl h (found_literal cs bs)
 
-all_literal : (w rest : List ℕ) → literal w (w ++ rest) ≡ Ok (tt, rest)
+all_literal : (w rest : List ℕ) → given_at w (w ++ rest) ≡ Ok (tt, rest)
 all_literal [] rest = refl
 all_literal (c ∷ cs) rest = rw (self c) (all_literal cs rest)
 
 abbrev StopsLiteral : List ℕ → List ℕ → Type 0
-StopsLiteral w bs = (left : ℕ) → literal w bs ≡ Err left → StopsAt (literal w) (IsLiteral w) bs left
+StopsLiteral w bs = (left : ℕ) → given_at w bs ≡ Err left → StopsAt (given_at w) (IsGiven w) bs left
 
-stops_by : (t : Bool) (c b : ℕ) (cs bs : List ℕ) (left : ℕ) → AreBytes (c ∷ cs) → (b == c) ≡ t → cond {A = Result (⊤ × List ℕ) ℕ} t (literal cs bs) (Err (length bs + 1)) ≡ Err left → StopsLiteral cs bs → StopsAt (literal (c ∷ cs)) (IsLiteral (c ∷ cs)) (b ∷ bs) left
+stops_by : (t : Bool) (c b : ℕ) (cs bs : List ℕ) (left : ℕ) → AreBytes (c ∷ cs) → (b == c) ≡ t → cond {A = Result (⊤ × List ℕ) ℕ} t (given_at cs bs) (Err (length bs + 1)) ≡ Err left → StopsLiteral cs bs → StopsAt (given_at (c ∷ cs)) (IsGiven (c ∷ cs)) (b ∷ bs) left
 stops_by true c b cs bs left w e h s =
     let p = s left h in
     record {
@@ -46,24 +48,17 @@ stops_by true c b cs bs left w e h s =
     }
 stops_by false c b cs bs left w e h s =
     let k : left ≡ length bs + 1 = cc in
-    record {
-      front = [];
-      rest = b ∷ bs;
-      parts = refl;
-      count = k ∙ add-one (length bs);
-      goes_on = (c ∷ cs, tt, refl, w);
-      no_further = λ d ds is xs. let same : b ≡ d = cc in subst (λ (x : ℕ). literal (c ∷ cs) (x ∷ xs) ≡ Err (length (x ∷ xs))) same (rw (e, add-one) refl);
-    }
+    stops_first (given_at (c ∷ cs)) _ b bs left (k ∙ add-one (length bs)) (c ∷ cs, tt, refl, w) (λ xs. (rw (e, add-one) refl))
 
 stops_literal : (w bs : List ℕ) → AreBytes w → StopsLiteral w bs
 stops_literal [] bs w left h = cc
-stops_literal (c ∷ cs) [] w left h = record { front = []; rest = []; parts = refl; count = (let e : left ≡ 0 = cc in e); goes_on = (c ∷ cs, tt, refl, w); no_further = λ d ds is xs. cc }
+stops_literal (c ∷ cs) [] w left h = stops_empty _ _ left (let e : left ≡ 0 = cc in e) (c ∷ cs, tt, refl, w)
 stops_literal (c ∷ cs) (b ∷ bs) w left h = stops_by (b == c) c b cs bs left w refl h (stops_literal cs bs w.1)
 
-pub literal_exact : (w : List ℕ) → AreBytes w → Exact (literal w) (IsLiteral w) (λ _ _. ⊤)
+pub literal_exact : (w : List ℕ) → AreBytes w → Exact (given_at w) (IsGiven w) (λ _ _. ⊤)
 literal_exact w h = record {
   found = λ text a rest e. (w, found_literal w text a rest e, refl);
-  all = λ a front rest is k. ap (λ l. literal w (l ++ rest)) is ∙ all_literal w rest;
+  all = λ a front rest is k. ap (λ l. given_at w (l ++ rest)) is ∙ all_literal w rest;
   next = λ text a b bs e. tt;
   stops = λ text left e. stops_literal w text h left e;
 }
@@ -108,7 +103,7 @@ found_gap_by false false b bs a rest e h =
     let pairs : ◌≡◌ {A = Bool × List ℕ} (false, b ∷ bs) (a, rest) = cc in
     ([], ap (λ q. q.1) pairs, subst (λ (x : Bool). IsGap x []) (ap (λ q. q.0) pairs) refl)
 
-found_gap : (word : Bool) (bs : List ℕ) (a : Bool) (rest : List ℕ) → gap word bs ≡ Ok (a, rest) → (front : List ℕ) × (bs ≡ front ++ rest) × IsGap a front
+found_gap : (word : Bool) (bs : List ℕ) (a : Bool) (rest : List ℕ) → gap_at word bs ≡ Ok (a, rest) → (front : List ℕ) × (bs ≡ front ++ rest) × IsGap a front
 found_gap word [] a rest h = let pairs : ◌≡◌ {A = Bool × List ℕ} (false, []) (a, rest) = cc in ([], ap (λ q. q.1) pairs, subst (λ (x : Bool). IsGap x []) (ap (λ q. q.0) pairs) refl)
 found_gap word (b ∷ bs) a rest h = found_gap_by (b == 32) (word && is_letter b) b bs a rest refl h
 
@@ -123,41 +118,34 @@ next_gap_by word false false b bs a c cs e g h =
     let same : b ≡ c = cc in
     subst (λ (x : Bool). AfterGap word x c) (ap (λ q. q.0) pairs) (subst (λ (x : ℕ). AfterGap word false x) same (e, g))
 
-next_gap : (word : Bool) (bs : List ℕ) (a : Bool) (c : ℕ) (cs : List ℕ) → gap word bs ≡ Ok (a, c ∷ cs) → AfterGap word a c
+next_gap : (word : Bool) (bs : List ℕ) (a : Bool) (c : ℕ) (cs : List ℕ) → gap_at word bs ≡ Ok (a, c ∷ cs) → AfterGap word a c
 next_gap word [] a c cs h = let pairs : ◌≡◌ {A = Bool × List ℕ} (false, []) (a, c ∷ cs) = cc in let lists : [] ≡ c ∷ cs = ap (λ q. q.1) pairs in cc
 next_gap word (b ∷ bs) a c cs h = next_gap_by word (b == 32) (word && is_letter b) b bs a c cs refl refl h
 
-no_gap : (word : Bool) (rest : List ℕ) → Begins (AfterGap word false) rest → gap word rest ≡ Ok (false, rest)
+no_gap : (word : Bool) (rest : List ℕ) → Begins (AfterGap word false) rest → gap_at word rest ≡ Ok (false, rest)
 no_gap word [] h = refl
 no_gap word (b ∷ bs) h = rw (h.0, h.1) refl
 
-all_gap : (word a : Bool) (front rest : List ℕ) → IsGap a front → Begins (AfterGap word a) rest → gap word (front ++ rest) ≡ Ok (a, rest)
-all_gap word false front rest is h = ap (λ l. gap word (l ++ rest)) is ∙ no_gap word rest h
-all_gap word true front rest is h = ap (λ l. gap word (l ++ rest)) is.1 ∙ ap (λ l. Ok (true, l)) (skips is.0 rest (spaces_end rest h))
+all_gap : (word a : Bool) (front rest : List ℕ) → IsGap a front → Begins (AfterGap word a) rest → gap_at word (front ++ rest) ≡ Ok (a, rest)
+all_gap word false front rest is h = ap (λ l. gap_at word (l ++ rest)) is ∙ no_gap word rest h
+all_gap word true front rest is h = ap (λ l. gap_at word (l ++ rest)) is.1 ∙ ap (λ l. Ok (true, l)) (skips is.0 rest (spaces_end rest h))
   where
     spaces_end : (rest : List ℕ) → Begins (AfterGap word true) rest → Begins (λ b. (b == 32) ≡ false) rest
     spaces_end [] h = tt
     spaces_end (b ∷ bs) h = h
 
-stops_gap_by : (word t u : Bool) (b : ℕ) (bs : List ℕ) (left : ℕ) → (b == 32) ≡ t → (word && is_letter b) ≡ u → cond {A = GotGap} t (Ok (true, without_spaces bs)) (cond u (Err (length bs + 1)) (Ok (false, b ∷ bs))) ≡ Err left → StopsAt (gap word) IsGap (b ∷ bs) left
+stops_gap_by : (word t u : Bool) (b : ℕ) (bs : List ℕ) (left : ℕ) → (b == 32) ≡ t → (word && is_letter b) ≡ u → cond {A = GotGap} t (Ok (true, without_spaces bs)) (cond u (Err (length bs + 1)) (Ok (false, b ∷ bs))) ≡ Err left → StopsAt (gap_at word) IsGap (b ∷ bs) left
 stops_gap_by word true u b bs left e g h = cc
 stops_gap_by word false false b bs left e g h = cc
 stops_gap_by word false true b bs left e g h =
     let k : left ≡ length bs + 1 = cc in
-    record {
-      front = [];
-      rest = b ∷ bs;
-      parts = refl;
-      count = k ∙ add-one (length bs);
-      goes_on = ([], false, refl, tt);
-      no_further = λ d ds is xs. let same : b ≡ d = cc in subst (λ (x : ℕ). gap word (x ∷ xs) ≡ Err (length (x ∷ xs))) same (rw (e, g, add-one) refl);
-    }
+    stops_first (gap_at word) _ b bs left (k ∙ add-one (length bs)) ([], false, refl, tt) (λ xs. (rw (e, g, add-one) refl))
 
-stops_gap : (word : Bool) (bs : List ℕ) (left : ℕ) → gap word bs ≡ Err left → StopsAt (gap word) IsGap bs left
+stops_gap : (word : Bool) (bs : List ℕ) (left : ℕ) → gap_at word bs ≡ Err left → StopsAt (gap_at word) IsGap bs left
 stops_gap word [] left h = cc
 stops_gap word (b ∷ bs) left h = stops_gap_by word (b == 32) (word && is_letter b) b bs left refl refl h
 
-pub gap_exact : (word : Bool) → Exact (gap word) IsGap (AfterGap word)
+pub gap_exact : (word : Bool) → Exact (gap_at word) IsGap (AfterGap word)
 gap_exact word = record { found = found_gap word; all = all_gap word; next = next_gap word; stops = stops_gap word }
 
 pub any_rest : (rest : List ℕ) → Begins (λ _. ⊤) rest
@@ -165,7 +153,7 @@ any_rest [] = tt
 any_rest (b ∷ bs) = tt
 
 pub token_exact : (word : Bool) (w : List ℕ) → AreBytes w → Exact (token word w) (IsToken w) (AfterGap word)
-token_exact word w h = bind_exact (literal w) (λ _. gap word) (IsLiteral w) (λ _. IsGap) (λ _ _. ⊤) (AfterGap word) (literal_exact w h) (λ _. gap_exact word) (λ _. (false, [], refl, tt)) (λ a b text rest is k. any_rest (text ++ rest))
+token_exact word w h = bind_exact (given_at w) (λ _. gap_at word) (IsGiven w) (λ _. IsGap) (λ _ _. ⊤) (AfterGap word) (literal_exact w h) (λ _. gap_exact word) (λ _. (false, [], refl, tt)) (λ a b text rest is k. any_rest (text ++ rest))
 
 pub token_heads : (w : List ℕ) (s : Bool) (text : List ℕ) → IsToken w s text → (more : List ℕ) × (text ≡ w ++ more)
 token_heads w s text is = (is.2, is.5 ∙ ap (λ l. l ++ is.2) is.3)
@@ -196,14 +184,7 @@ module _ {A : Type 0} (bad : ℕ → Bool) (a : A) where
   stops_end_by false b bs left e h = cc
   stops_end_by true b bs left e h =
       let k : left ≡ length bs + 1 = cc in
-      record {
-        front = [];
-        rest = b ∷ bs;
-        parts = refl;
-        count = k ∙ add-one (length bs);
-        goes_on = ([], a, (refl, refl), tt);
-        no_further = λ d ds is xs. let same : b ≡ d = cc in subst (λ (x : ℕ). ends bad a (x ∷ xs) ≡ Err (length (x ∷ xs))) same (rw (e, add-one) refl);
-      }
+      stops_first (ends bad a) _ b bs left (k ∙ add-one (length bs)) ([], a, (refl, refl), tt) (λ xs. (rw (e, add-one) refl))
 
   stops_end : (bs : List ℕ) (left : ℕ) → ends bad a bs ≡ Err left → StopsAt (ends bad a) (IsEnd a) bs left
   stops_end [] left h = cc

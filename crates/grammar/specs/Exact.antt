@@ -1,5 +1,6 @@
 -- When a reading is that of a grammar, and stops exactly where no text of the grammar goes on.
-use Rattle.std.specs.Prelude.{◌≡◌, ℕ, ◌<◌, List, [], ◌∷◌, ◌++◌, length, Result, Ok, Err}
+use Rattle.std.specs.Prelude.{◌≡◌, ℕ, List, [], ◌∷◌, ◌++◌, length, Result, Ok, Err}
+use Rattle.key_types.specs.Kinds.{AreBytes}
 
 -- what is read from the front of bytes with the bytes behind it, or how many bytes are left where nothing goes on
 abbrev pub Read : Type 0 → Type 0
@@ -9,11 +10,6 @@ Read A = List ℕ → Result (A × List ℕ) ℕ
 abbrev pub Begins : (ℕ → Type 0) → List ℕ → Type 0
 Begins follow [] = Unit {0}
 Begins follow (b ∷ bs) = follow b
-
--- each is below 256
-abbrev pub AreBytes : List ℕ → Type 0
-AreBytes [] = Unit {0}
-AreBytes (b ∷ bs) = (b < 256) × AreBytes bs
 
 -- some bytes behind these make a text of the grammar
 abbrev pub Viable : {A : Type 0} → (A → List ℕ → Type 0) → List ℕ → Type 0

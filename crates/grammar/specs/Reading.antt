@@ -14,14 +14,14 @@ then_read r f bs = bind (r bs) f
 abbrev pub Then : {A B : Type 0} → (A → List ℕ → Type 0) → (A → B → List ℕ → Type 0) → B → List ℕ → Type 0
 Then {A} First Second b text = (a : A) × (front : List ℕ) × (rest : List ℕ) × First a front × Second a b rest × (text ≡ front ++ rest)
 
-abbrev pub further : {A : Type 0} → ℕ → Result (A × List ℕ) ℕ → Result (A × List ℕ) ℕ
-further n (Ok x) = Ok x
-further n (Err m) = Err (min n m)
+abbrev pub further_stop : {A : Type 0} → ℕ → Result (A × List ℕ) ℕ → Result (A × List ℕ) ℕ
+further_stop n (Ok x) = Ok x
+further_stop n (Err m) = Err (min n m)
 
 -- the second where the first stops; where both stop, the place is the one further on
 abbrev pub or_else : {A : Type 0} → Result (A × List ℕ) ℕ → Result (A × List ℕ) ℕ → Result (A × List ℕ) ℕ
 or_else (Ok x) other = Ok x
-or_else (Err n) other = further n other
+or_else (Err n) other = further_stop n other
 
 abbrev pub either : {A : Type 0} → Read A → Read A → Read A
 either r s bs = or_else (r bs) (s bs)
@@ -39,16 +39,28 @@ abbrev pub by_first : {A : Type 0} → (ℕ → Bool) → Read A → Read A → 
 by_first test r s [] = Err 0
 by_first test r s (b ∷ bs) = if test b then r (b ∷ bs) else s (b ∷ bs)
 
+-- ---- bytes in front of those that are read
+
+-- one byte
+abbrev pub onto : ℕ → Result (List ℕ × List ℕ) ℕ → Result (List ℕ × List ℕ) ℕ
+onto b (Ok x) = Ok (b ∷ x.0, x.1)
+onto b (Err e) = Err e
+
+-- several
+abbrev pub with_front : List ℕ → Result (List ℕ × List ℕ) ℕ → Result (List ℕ × List ℕ) ℕ
+with_front front (Ok x) = Ok (front ++ x.0, x.1)
+with_front front (Err e) = Err e
+
 -- ---- tokens, each with the spaces behind it
 
 -- these bytes
-abbrev pub literal : List ℕ → Read ⊤
-literal [] bs = Ok (tt, bs)
-literal (c ∷ cs) [] = Err 0
-literal (c ∷ cs) (b ∷ bs) = if b == c then literal cs bs else Err (length bs + 1)
+abbrev pub given_at : List ℕ → Read ⊤
+given_at [] bs = Ok (tt, bs)
+given_at (c ∷ cs) [] = Err 0
+given_at (c ∷ cs) (b ∷ bs) = if b == c then given_at cs bs else Err (length bs + 1)
 
-abbrev pub IsLiteral : List ℕ → ⊤ → List ℕ → Type 0
-IsLiteral w _ bs = bs ≡ w
+abbrev pub IsGiven : List ℕ → ⊤ → List ℕ → Type 0
+IsGiven w _ bs = bs ≡ w
 
 abbrev pub without_spaces : List ℕ → List ℕ
 without_spaces [] = []
@@ -58,9 +70,9 @@ abbrev pub is_letter : ℕ → Bool
 is_letter b = nat_le 97 b && nat_le b 122
 
 -- the spaces behind a token, and whether there are any; behind a word, a letter stands only behind spaces
-abbrev pub gap : Bool → Read Bool
-gap word [] = Ok (false, [])
-gap word (b ∷ bs) = if b == 32 then Ok (true, without_spaces bs) else (if word && is_letter b then Err (length bs + 1) else Ok (false, b ∷ bs))
+abbrev pub gap_at : Bool → Read Bool
+gap_at word [] = Ok (false, [])
+gap_at word (b ∷ bs) = if b == 32 then Ok (true, without_spaces bs) else (if word && is_letter b then Err (length bs + 1) else Ok (false, b ∷ bs))
 
 abbrev pub IsGap : Bool → List ℕ → Type 0
 IsGap false bs = bs ≡ []
@@ -72,10 +84,10 @@ AfterGap word false b = ((b == 32) ≡ false) × ((word && is_letter b) ≡ fals
 
 -- a word or a sign, with the spaces behind it
 abbrev pub token : Bool → List ℕ → Read Bool
-token word w = then_read (literal w) (λ _. gap word)
+token word w = then_read (given_at w) (λ _. gap_at word)
 
 abbrev pub IsToken : List ℕ → Bool → List ℕ → Type 0
-IsToken w = Then (IsLiteral w) (λ _. IsGap)
+IsToken w = Then (IsGiven w) (λ _. IsGap)
 
 -- spaces, or none
 abbrev pub spaces_at : Read ⊤
@@ -120,16 +132,16 @@ abbrev pub whole : {A : Type 0} → Read A → List ℕ → Result A ℕ
 whole r bs = all_of (r bs)
 
 -- a word with the spaces behind it, seen as what it names, and whether there are any spaces
-abbrev pub word_at : {A : Type 0} → List ℕ × A → Read (A × Bool)
-word_at {A} x = map_read (λ s. (x.1, s)) (token true x.0)
+abbrev pub named_word_at : {A : Type 0} → List ℕ × A → Read (A × Bool)
+named_word_at {A} x = map_read (λ s. (x.1, s)) (token true x.0)
 
 abbrev pub IsWord : {A : Type 0} → List ℕ × A → A × Bool → List ℕ → Type 0
 IsWord {A} x = Mapped (λ s. (x.1, s)) (IsToken x.0)
 
 -- one of several words
 abbrev pub one_of : {A : Type 0} → List ℕ × A → List (List ℕ × A) → Read (A × Bool)
-one_of x [] = word_at x
-one_of x (y ∷ ys) = either (word_at x) (one_of y ys)
+one_of x [] = named_word_at x
+one_of x (y ∷ ys) = either (named_word_at x) (one_of y ys)
 
 abbrev pub IsOneOf : {A : Type 0} → List ℕ × A → List (List ℕ × A) → A × Bool → List ℕ → Type 0
 IsOneOf x [] = IsWord x

@@ -1,6 +1,7 @@
+//! Words, signs and spaces, which the readings of schemas, of literals and of scripts share.
 ghost use Rattle.std.specs.Prelude.{◌≡◌, ◌∷◌, [], ⊤, true};
 ghost use Rattle.grammar.specs.Code.{Gives};
-ghost use Rattle.grammar.specs.Reading.{literal, gap, without_spaces, is_letter, token, sign_at};
+ghost use Rattle.grammar.specs.Reading.{given_at, gap_at, without_spaces, is_letter, token, sign_at};
 
 use crate::Stop;
 
@@ -17,7 +18,7 @@ pub fn skip_spaces(bytes: &[u8]) -> &[u8]
 
 /// The bytes behind these given ones.
 fn given<'a>(word: &[u8], bytes: &'a [u8]) -> Result<&'a [u8], Stop>
-    ensures { Gives (λ x. (tt, x.now)) result (literal word.now bytes.now) }
+    ensures { Gives (λ x. (tt, x.now)) result (given_at word.now bytes.now) }
 {
     let mut left = word;
     let mut rest = bytes;
@@ -40,7 +41,7 @@ fn letter(byte: u8) -> bool
 
 /// The spaces behind a token, and whether there are any. Behind a word no letter stands at once.
 fn spaces(word: bool, bytes: &[u8]) -> Result<(bool, &[u8]), Stop>
-    ensures { Gives (λ x. (x.0, x.1.now)) result (gap word bytes.now) }
+    ensures { Gives (λ x. (x.0, x.1.now)) result (gap_at word bytes.now) }
 {
     match bytes {
         [b' ', after @ ..] => Ok((true, skip_spaces(after))),

@@ -2,18 +2,19 @@
 use Rattle.std.proofs.Common.{◌≡◌, ℕ, ◌+◌, ◌≤◌, ◌==◌, ◌^◌, Bool, true, false, cond, List, [], ◌∷◌, ◌++◌, length, Result, Ok, Err, arith, refl, sym, ◌∙◌, ap, subst, add-one, inl}
 use Rattle.std.specs.Prelude.{⊤, pos, negsuc}
 use Rattle.std.proofs.lemmas.Bool.Decides.{nat_tests}
-use Rattle.grammar.specs.Exact.{Exact, StopsAt, Begins, AreBytes}
-use Rattle.grammar.specs.Reading.{Then, map_read, Mapped, literal, IsLiteral, Either}
+use Rattle.grammar.specs.Exact.{Exact, StopsAt, Begins}
+use Rattle.grammar.specs.Reading.{Then, map_read, Mapped, given_at, IsGiven, Either}
 use Rattle.grammar.proofs.Octets.{bytes_both}
 use Rattle.grammar.proofs.Bind.{bind_exact}
 use Rattle.grammar.proofs.First.{first_exact}
 use Rattle.grammar.proofs.Map.{map_exact}
 use Rattle.grammar.proofs.Tokens.{literal_exact}
-use Rattle.key_types.specs.Kinds.{Kind, tiny, small, int, big, text, blob, boolean, tuple, reversed, Kinds, end, more, Val, number, bytes, truth, values, Vals, none, and}
-use Rattle.key_decode.specs.Reading.{text_at, Ends, number_at, long_at, turn, turned, turn_read, lowered, signed_at, big_at, is_high, is_from, truth_at, value_at, values_at}
+use Rattle.key_types.specs.Kinds.{Kind, tiny, small, int, big, text, blob, boolean, tuple, reversed, Kinds, end, more, Val, number, bytes, truth, values, Vals, none, and, AreBytes}
+use Rattle.key_decode.specs.Reading.{text_at, EndsText, unsigned_at, long_at, byte_complement, complemented, complement_read, lowered, signed_at, big_at, is_high, is_from, truth_byte_at, value_at, values_at}
 use Rattle.key_decode.proofs.Text.{text_exact, IsText}
 use Rattle.key_decode.proofs.Turn.{turn_exact, all_twice, turned_bytes, Turned}
 use Rattle.key_decode.proofs.Exact.{any, Free, IsNumber, number_exact, number_some, IsLong, long_exact, long_some}
+use Rattle.grammar.proofs.Front.{stops_first, stops_empty}
 
 -- ---- one component
 
@@ -39,29 +40,29 @@ abbrev mutual
   IsRead (reversed t) = Turned (IsRead t)
 
   pub AreRead : Kinds → Vals → List ℕ → Type 0
-  AreRead end = Mapped (λ _. none) (IsLiteral (0x38 ∷ []))
-  AreRead (more t ts) = Then (IsLiteral (0x40 ∷ [])) (λ _. Then (IsRead t) (λ v. Mapped (and v) (AreRead ts)))
+  AreRead end = Mapped (λ _. none) (IsGiven (0x38 ∷ []))
+  AreRead (more t ts) = Then (IsGiven (0x40 ∷ [])) (λ _. Then (IsRead t) (λ v. Mapped (and v) (AreRead ts)))
 
 -- what may stand behind a value
 abbrev pub MayFollow : Kind → ℕ → Type 0
-MayFollow (reversed t) b = MayFollow t (turn b)
-MayFollow text b = Ends b
-MayFollow blob b = Ends b
+MayFollow (reversed t) b = MayFollow t (byte_complement b)
+MayFollow text b = EndsText b
+MayFollow blob b = EndsText b
 MayFollow t b = ⊤
 
 -- separators and terminators, also complemented
 abbrev Between : ℕ → Type 0
 Between b = (16 ≤ b) × (b ≤ 239)
 
-between_turned : (b : ℕ) → Between b → Between (turn b)
+between_turned : (b : ℕ) → Between b → Between (byte_complement b)
 between_turned b h = (grind (arith, nat_tests), grind (arith, nat_tests))
 
-between_ends : (b : ℕ) → Between b → Ends b
+between_ends : (b : ℕ) → Between b → EndsText b
 between_ends b h = (grind (arith, nat_tests), grind (arith, nat_tests))
 
 between : (t : Kind) (b : ℕ) → Between b → MayFollow t b
 between (tuple ts) b h = tt
-between (reversed t) b h = between t (turn b) (between_turned b h)
+between (reversed t) b h = between t (byte_complement b) (between_turned b h)
 between text b h = between_ends b h
 between blob b h = between_ends b h
 between tiny b h = tt
@@ -71,25 +72,25 @@ between big b h = tt
 between boolean b h = tt
 
 signed_exact : (k half : ℕ) → Exact (signed_at k half) (IsSigned k half) (Free {A = Val})
-signed_exact k half = map_exact (λ n. number (lowered half n)) (number_at k 0) (IsNumber k 0) (Free {A = ℕ}) (Free {A = Val}) (number_exact k 0) (λ a c h. tt) (λ a c h. tt)
+signed_exact k half = map_exact (λ n. number (lowered half n)) (unsigned_at k 0) (IsNumber k 0) (Free {A = ℕ}) (Free {A = Val}) (number_exact k 0) (λ a c h. tt) (λ a c h. tt)
 
-text_value : Exact (map_read bytes text_at) (Mapped bytes IsText) (λ _. Ends)
-text_value = map_exact bytes text_at IsText (λ _. Ends) (λ _. Ends) text_exact (λ a c h. h) (λ a c h. h)
+text_value : Exact (map_read bytes text_at) (Mapped bytes IsText) (λ _. EndsText)
+text_value = map_exact bytes text_at IsText (λ _. EndsText) (λ _. EndsText) text_exact (λ a c h. h) (λ a c h. h)
 
 -- ---- bigints
 
 is_above : (b : ℕ) → is_from 128 b ≡ true → is_high b ≡ true
 is_above b h = grind (arith, nat_tests)
 
-turned_low : (b c : ℕ) → is_from 128 b ≡ true → turn c ≡ b → is_high c ≡ false
+turned_low : (b c : ℕ) → is_from 128 b ≡ true → byte_complement c ≡ b → is_high c ≡ false
 turned_low b c h k = grind (arith, nat_tests)
 
 high_heads : (v : Val) (all : List ℕ) → Mapped (λ n. number (pos n)) IsLong v all → (c : ℕ) × (cs : List ℕ) × (all ≡ c ∷ cs) × (is_high c ≡ true)
 high_heads v all is = let l = is.1 in (l.0, l.2, l.5 ∙ ap (λ q. q ++ l.2) l.3.1, is_above l.0 l.3.0)
 
-low_by : (all : List ℕ) (b : ℕ) (bs : List ℕ) → turned all ≡ b ∷ bs → is_from 128 b ≡ true → (c : ℕ) × (cs : List ℕ) × (all ≡ c ∷ cs) × (is_high c ≡ false)
+low_by : (all : List ℕ) (b : ℕ) (bs : List ℕ) → complemented all ≡ b ∷ bs → is_from 128 b ≡ true → (c : ℕ) × (cs : List ℕ) × (all ≡ c ∷ cs) × (is_high c ≡ false)
 low_by [] b bs h w = cc
-low_by (c ∷ cs) b bs h w = let same : turn c ≡ b = cc in (c, cs, refl, turned_low b c w same)
+low_by (c ∷ cs) b bs h w = let same : byte_complement c ≡ b = cc in (c, cs, refl, turned_low b c w same)
 
 low_heads : (v : Val) (all : List ℕ) → Mapped (λ n. number (negsuc n)) (Turned IsLong) v all → (c : ℕ) × (cs : List ℕ) × (all ≡ c ∷ cs) × (is_high c ≡ false)
 low_heads v all is = let l = is.1 in low_by all l.0 l.2 (l.5 ∙ ap (λ q. q ++ l.2) l.3.1) l.3.0
@@ -97,8 +98,8 @@ low_heads v all is = let l = is.1 in low_by all l.0 l.2 (l.5 ∙ ap (λ q. q ++ 
 high_exact : Exact (map_read (λ n. number (pos n)) long_at) (Mapped (λ n. number (pos n)) IsLong) (Free {A = Val})
 high_exact = map_exact (λ n. number (pos n)) long_at IsLong (Free {A = ℕ}) (Free {A = Val}) long_exact (λ a c h. tt) (λ a c h. tt)
 
-low_exact : Exact (map_read (λ n. number (negsuc n)) (turn_read long_at)) (Mapped (λ n. number (negsuc n)) (Turned IsLong)) (Free {A = Val})
-low_exact = map_exact (λ n. number (negsuc n)) (turn_read long_at) (Turned IsLong) (λ a b. Free {A = ℕ} a (turn b)) (Free {A = Val}) (turn_exact long_at IsLong (Free {A = ℕ}) long_exact) (λ a c h. tt) (λ a c h. tt)
+low_exact : Exact (map_read (λ n. number (negsuc n)) (complement_read long_at)) (Mapped (λ n. number (negsuc n)) (Turned IsLong)) (Free {A = Val})
+low_exact = map_exact (λ n. number (negsuc n)) (complement_read long_at) (Turned IsLong) (λ a b. Free {A = ℕ} a (byte_complement b)) (Free {A = Val}) (turn_exact long_at IsLong (Free {A = ℕ}) long_exact) (λ a c h. tt) (λ a c h. tt)
 
 big_exact : Exact big_at IsBig (Free {A = Val})
 big_exact = first_exact is_high _ _ (Mapped (λ n. number (pos n)) IsLong) (Mapped (λ n. number (negsuc n)) (Turned IsLong)) (Free {A = Val}) high_exact low_exact high_heads low_heads
@@ -123,44 +124,30 @@ truth_by true u b bs v rest e g h = got_truth false b bs v rest (same_byte b 0 e
 truth_by false true b bs v rest e g h = got_truth true b bs v rest (same_byte b 1 g) h
 truth_by false false b bs v rest e g h = cc
 
-truth_found : (text : List ℕ) (v : Val) (rest : List ℕ) → truth_at text ≡ Ok (v, rest) → (front : List ℕ) × (text ≡ front ++ rest) × IsTruth v front
+truth_found : (text : List ℕ) (v : Val) (rest : List ℕ) → truth_byte_at text ≡ Ok (v, rest) → (front : List ℕ) × (text ≡ front ++ rest) × IsTruth v front
 truth_found [] v rest h = cc
 truth_found (b ∷ bs) v rest h = truth_by (b == 0) (b == 1) b bs v rest refl refl h
 
-truth_all_by : (x : Bool) (rest : List ℕ) → truth_at (cond x 1 0 ∷ rest) ≡ Ok (truth x, rest)
+truth_all_by : (x : Bool) (rest : List ℕ) → truth_byte_at (cond x 1 0 ∷ rest) ≡ Ok (truth x, rest)
 truth_all_by true rest = refl
 truth_all_by false rest = refl
 
-truth_all : (v : Val) (front rest : List ℕ) → IsTruth v front → truth_at (front ++ rest) ≡ Ok (v, rest)
-truth_all v front rest is = ap (λ l. truth_at (l ++ rest)) is.2 ∙ truth_all_by is.0 rest ∙ ap (λ w. Ok (w, rest)) (sym is.1)
+truth_all : (v : Val) (front rest : List ℕ) → IsTruth v front → truth_byte_at (front ++ rest) ≡ Ok (v, rest)
+truth_all v front rest is = ap (λ l. truth_byte_at (l ++ rest)) is.2 ∙ truth_all_by is.0 rest ∙ ap (λ w. Ok (w, rest)) (sym is.1)
 
 truth_stops_by : (t u : Bool) (b : ℕ) (bs : List ℕ) (left : ℕ) → (b == 0) ≡ t → (b == 1) ≡ u → cond {A = GotVal} t (Ok (truth false, bs)) (cond {A = GotVal} u (Ok (truth true, bs)) (Err (length bs + 1))) ≡ Err left
-    → StopsAt truth_at IsTruth (b ∷ bs) left
+    → StopsAt truth_byte_at IsTruth (b ∷ bs) left
 truth_stops_by true u b bs left e g h = cc
 truth_stops_by false true b bs left e g h = cc
 truth_stops_by false false b bs left e g h =
     let k : left ≡ length bs + 1 = cc in
-    record {
-      front = [];
-      rest = b ∷ bs;
-      parts = refl;
-      count = k ∙ add-one (length bs);
-      goes_on = (0 ∷ [], truth false, (false, refl, refl), (omega arith, tt));
-      no_further = λ d ds is cs. let same : b ≡ d = cc in subst (λ (x : ℕ). truth_at (x ∷ cs) ≡ Err (length (x ∷ cs))) same (rw (e, g, add-one) refl);
-    }
+    stops_first truth_byte_at _ b bs left (k ∙ add-one (length bs)) (0 ∷ [], truth false, (false, refl, refl), (omega arith, tt)) (λ cs. (rw (e, g, add-one) refl))
 
-truth_stops : (text : List ℕ) (left : ℕ) → truth_at text ≡ Err left → StopsAt truth_at IsTruth text left
-truth_stops [] left h = record {
-  front = [];
-  rest = [];
-  parts = refl;
-  count = (let e : left ≡ 0 = cc in e);
-  goes_on = (0 ∷ [], truth false, (false, refl, refl), (omega arith, tt));
-  no_further = λ d ds is cs. cc;
-}
+truth_stops : (text : List ℕ) (left : ℕ) → truth_byte_at text ≡ Err left → StopsAt truth_byte_at IsTruth text left
+truth_stops [] left h = stops_empty _ _ left (let e : left ≡ 0 = cc in e) (0 ∷ [], truth false, (false, refl, refl), (omega arith, tt))
 truth_stops (b ∷ bs) left h = truth_stops_by (b == 0) (b == 1) b bs left refl refl h
 
-truth_exact : Exact truth_at IsTruth (Free {A = Val})
+truth_exact : Exact truth_byte_at IsTruth (Free {A = Val})
 truth_exact = record {
   found = truth_found;
   all = λ v front rest is h. truth_all v front rest is;
@@ -171,7 +158,7 @@ truth_exact = record {
 -- ---- there are values of each type
 
 turn_some : (t : Kind) → (v : Val) × (bs : List ℕ) × IsRead t v bs × AreBytes bs → (v : Val) × (bs : List ℕ) × Turned (IsRead t) v bs × AreBytes bs
-turn_some t p = (p.0, turned p.1, subst (IsRead t p.0) (sym (all_twice p.1)) p.2, turned_bytes p.1 p.3)
+turn_some t p = (p.0, complemented p.1, subst (IsRead t p.0) (sym (all_twice p.1)) p.2, turned_bytes p.1 p.3)
 
 signed_some : (k half : ℕ) → (v : Val) × (bs : List ℕ) × IsSigned k half v bs × AreBytes bs
 signed_some k half = let p = number_some k 0 in (number (lowered half p.0), p.1, (p.0, p.2, refl), p.3)
@@ -221,7 +208,7 @@ one_more t ts one rest =
     one (λ v. map_exact (and v) (values_at ts) (AreRead ts) (Free {A = Vals}) (Free {A = Vals}) rest (λ a c k. tt) (λ a c k. tt))
     (λ v. let q = all_some ts in (and v q.0, q.1, (q.0, q.2, refl), q.3))
     (λ v vs bs tail is k. may_follow t ts is.0 bs tail is.1) in
-    bind_exact (literal (0x40 ∷ [])) _ (IsLiteral (0x40 ∷ [])) _ (Free {A = ⊤}) (Free {A = Vals}) (literal_exact (0x40 ∷ []) separator) (λ _. inner)
+    bind_exact (given_at (0x40 ∷ [])) _ (IsGiven (0x40 ∷ [])) _ (Free {A = ⊤}) (Free {A = Vals}) (literal_exact (0x40 ∷ []) separator) (λ _. inner)
     (λ _. let p = some t in let q = all_some ts in (and p.0 q.0, p.1 ++ q.1, (p.0, p.1, q.1, p.2, (q.0, q.2, refl), refl), bytes_both p.1 q.1 p.3 q.3))
     (λ a vs bs tail is k. any bs tail)
 
@@ -238,5 +225,5 @@ mutual
   value_exact boolean = truth_exact
 
   pub values_exact : (ts : Kinds) → All ts
-  values_exact end = map_exact (λ _. none) (literal (0x38 ∷ [])) (IsLiteral (0x38 ∷ [])) (Free {A = ⊤}) (Free {A = Vals}) (literal_exact (0x38 ∷ []) terminator) (λ a c k. tt) (λ a c k. tt)
+  values_exact end = map_exact (λ _. none) (given_at (0x38 ∷ [])) (IsGiven (0x38 ∷ [])) (Free {A = ⊤}) (Free {A = Vals}) (literal_exact (0x38 ∷ []) terminator) (λ a c k. tt) (λ a c k. tt)
   values_exact (more t ts) = one_more t ts (value_exact t) (values_exact ts)

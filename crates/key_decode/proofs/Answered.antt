@@ -3,12 +3,13 @@ use Rattle.std.proofs.Common.{◌≡◌, ℕ, suc, ◌+◌, ◌-◌, ◌<◌, �
 use Rattle.std.specs.Prelude.{if◌then◌else◌}
 use Rattle.std.proofs.lemmas.List.{append-nil}
 use Rattle.std.proofs.lemmas.Bool.Decides.{nat_tests}
-use Rattle.grammar.specs.Exact.{Read, Exact, Viable, AreBytes}
+use Rattle.grammar.specs.Exact.{Read, Exact, Viable}
+use Rattle.key_types.specs.Kinds.{AreBytes}
 use Rattle.grammar.specs.Reading.{whole, all_of}
 use Rattle.grammar.proofs.Octets.{bytes_both}
 use Rattle.grammar.proofs.Map.{whole_found, whole_all, longest}
 use Rattle.key_decode.specs.declared.decoding.DecodeError.TheVariants.{Truncated, BadByte}
-use Rattle.key_decode.specs.Shapes.{IsShape, BeginsShape, DecodesBy, Refuses, refusal_of}
+use Rattle.key_decode.specs.Shapes.{IsShape, BeginsShape, DecodesBy, RefusesBytes, refusal_of}
 use Rattle.key_decode.proofs.Link.{bytes_front, bytes_behind}
 
 take_front : (xs ys : List ℕ) → take (length xs) (xs ++ ys) ≡ xs
@@ -113,9 +114,9 @@ module _ {A X : Type 0} (r : Read A) (Is : A → List ℕ → Type 0) (follow : 
   pub refused : (text : List ℕ) (left : ℕ) → AreBytes text → whole r text ≡ Err left → DecodesBy spelled AsBytes view Fit text (Err (refusal_of (length text) left))
   refused text left h e = refused_by (left == 0) text left refl h e
 
-  refuses_by : (t : Bool) (text : List ℕ) (left : ℕ) → whole r text ≡ Err left → Refuses {X = X} spelled Fit text (Err (if t then Truncated else BadByte (length text - left)))
+  refuses_by : (t : Bool) (text : List ℕ) (left : ℕ) → whole r text ≡ Err left → RefusesBytes {X = X} spelled Fit text (Err (if t then Truncated else BadByte (length text - left)))
   refuses_by true text left e = none_fits text left e
   refuses_by false text left e = none_fits text left e
 
-  pub refuses : (text : List ℕ) (left : ℕ) → whole r text ≡ Err left → Refuses {X = X} spelled Fit text (Err (refusal_of (length text) left))
+  pub refuses : (text : List ℕ) (left : ℕ) → whole r text ≡ Err left → RefusesBytes {X = X} spelled Fit text (Err (refusal_of (length text) left))
   refuses text left e = refuses_by (left == 0) text left e

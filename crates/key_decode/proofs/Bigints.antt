@@ -4,7 +4,7 @@ use Rattle.std.specs.Prelude.{nat_lt, nat_le, ◌&&◌, if◌then◌else◌}
 use Rattle.std.specs.Int.{bytes_high_first, byte_at}
 use Rattle.std.proofs.lemmas.Bool.Decides.{nat_tests}
 use Rattle.std.proofs.lemmas.Nat.{div-mul-add, mod_below}
-use Rattle.grammar.specs.Exact.{AreBytes}
+use Rattle.key_types.specs.Kinds.{AreBytes}
 use Rattle.byte_comparable.specs.Encoding.{sized, long_bytes}
 use Rattle.byte_comparable.proofs.Long.{top, floor, Form, few, nine, form, pow_up, floor_up}
 use Rattle.byte_comparable.proofs.Numbers.{byte_is}

@@ -5,9 +5,8 @@ use Rattle.std.specs.Int.{bytes_high_first, byte_at}
 use Rattle.std.proofs.lemmas.Bool.Decides.{nat_tests}
 use Rattle.std.proofs.lemmas.Int.{ints}
 use Rattle.std.proofs.lemmas.Nat.{div-mul-add, mod-mul-add, mul-add-lt, div-add-mod', mod_below}
-use Rattle.key_types.specs.Kinds.{within}
-use Rattle.grammar.specs.Exact.{AreBytes}
-use Rattle.byte_comparable.specs.Encoding.{shifted}
+use Rattle.key_types.specs.Kinds.{within, AreBytes}
+use Rattle.byte_comparable.specs.Encoding.{unsigned_of}
 use Rattle.byte_comparable.proofs.Numbers.{Within, byte_is, positive}
 use Rattle.key_decode.specs.Reading.{lowered}
 use Rattle.key_decode.proofs.Exact.{value_from}
@@ -73,11 +72,11 @@ from_bytes m (suc k) n =
 
 -- ---- signed numbers
 
-raised_by : (half n : ℕ) (x : ℤ) → x ≡ pos n -ℤ pos half → shifted half x ≡ n
+raised_by : (half n : ℕ) (x : ℤ) → x ≡ pos n -ℤ pos half → unsigned_of half x ≡ n
 raised_by half n (pos m) e = omega (arith, ints)
 raised_by half n (negsuc m) e = omega (arith, ints)
 
-pub raised : (half n : ℕ) → shifted half (lowered half n) ≡ n
+pub raised : (half n : ℕ) → unsigned_of half (lowered half n) ≡ n
 raised half n = raised_by half n (lowered half n) refl
 
 within_by : (half n : ℕ) (x : ℤ) → n < half + half → x ≡ pos n -ℤ pos half → Within half x
@@ -87,7 +86,7 @@ within_by half n (negsuc m) h e = omega (arith, ints)
 pub lowered_within : (half n : ℕ) → n < half + half → Within half (lowered half n)
 lowered_within half n h = within_by half n (lowered half n) h refl
 
-pub lowered_again : (half : ℕ) (x : ℤ) → Within half x → lowered half (shifted half x) ≡ x
+pub lowered_again : (half : ℕ) (x : ℤ) → Within half x → lowered half (unsigned_of half x) ≡ x
 lowered_again half (pos n) h = omega (arith, ints)
 lowered_again half (negsuc n) h = omega (arith, ints)
 

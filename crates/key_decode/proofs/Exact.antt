@@ -2,10 +2,12 @@
 use Rattle.std.proofs.Common.{◌≡◌, ℕ, zero, suc, ◌==◌, ◌+◌, ◌-◌, ◌*◌, ◌^◌, ◌<◌, ◌≤◌, Bool, true, false, cond, List, [], ◌∷◌, ◌++◌, length, Result, Ok, Err, arith, refl, sym, ◌∙◌, ap, subst, add-one}
 use Rattle.std.specs.Prelude.{⊤, nat_le, ◌&&◌, replicate, if◌then◌else◌}
 use Rattle.std.proofs.lemmas.Bool.Decides.{nat_tests}
-use Rattle.grammar.specs.Exact.{Read, Exact, StopsAt, Begins, AreBytes}
+use Rattle.grammar.specs.Exact.{Read, Exact, StopsAt, Begins}
+use Rattle.key_types.specs.Kinds.{AreBytes}
 use Rattle.grammar.specs.Reading.{then_read, Then}
 use Rattle.grammar.proofs.Bind.{bind_exact}
-use Rattle.key_decode.specs.Reading.{number_at, is_from, byte_from, count_behind, base, least_second, nine_at, third_at, second_at, long_at}
+use Rattle.key_decode.specs.Reading.{unsigned_at, is_from, byte_from, count_behind, base, least_second, nine_at, third_at, second_at, long_at}
+use Rattle.grammar.proofs.Front.{stops_first, stops_empty}
 
 pub any : (bs rest : List ℕ) → Begins (λ _. ⊤) (bs ++ rest)
 any [] [] = tt
@@ -22,7 +24,7 @@ value_from n (b ∷ bs) = value_from (n * 256 + b) bs
 abbrev pub IsNumber : ℕ → ℕ → ℕ → List ℕ → Type 0
 IsNumber k n m bs = (length bs ≡ k) × (m ≡ value_from n bs)
 
-number_found : (k n : ℕ) (text : List ℕ) (m : ℕ) (rest : List ℕ) → number_at k n text ≡ Ok (m, rest) → (front : List ℕ) × (text ≡ front ++ rest) × IsNumber k n m front
+number_found : (k n : ℕ) (text : List ℕ) (m : ℕ) (rest : List ℕ) → unsigned_at k n text ≡ Ok (m, rest) → (front : List ℕ) × (text ≡ front ++ rest) × IsNumber k n m front
 number_found zero n text m rest h =
     let pairs : ◌≡◌ {A = ℕ × List ℕ} (n, text) (m, rest) = cc in
     ([], ap (λ q. q.1) pairs, (refl, sym (ap (λ q. q.0) pairs)))
@@ -31,7 +33,7 @@ number_found (suc k) n (b ∷ bs) m rest h =
     let p = number_found k (n * 256 + b) bs m rest h in
     (b ∷ p.0, ap (λ l. b ∷ l) p.1, (ap suc p.2.0, p.2.1))
 
-number_all : (k n : ℕ) (front rest : List ℕ) → length front ≡ k → number_at k n (front ++ rest) ≡ Ok (value_from n front, rest)
+number_all : (k n : ℕ) (front rest : List ℕ) → length front ≡ k → unsigned_at k n (front ++ rest) ≡ Ok (value_from n front, rest)
 number_all zero n [] rest h = refl
 number_all zero n (b ∷ bs) rest h = absurd (omega arith)
 number_all (suc k) n [] rest h = absurd (omega arith)
@@ -45,16 +47,9 @@ zeros_bytes : (k : ℕ) → AreBytes (replicate k 0)
 zeros_bytes zero = tt
 zeros_bytes (suc k) = (omega arith, zeros_bytes k)
 
-number_stops : (k n : ℕ) (text : List ℕ) (left : ℕ) → number_at k n text ≡ Err left → StopsAt (number_at k n) (IsNumber k n) text left
+number_stops : (k n : ℕ) (text : List ℕ) (left : ℕ) → unsigned_at k n text ≡ Err left → StopsAt (unsigned_at k n) (IsNumber k n) text left
 number_stops zero n text left h = cc
-number_stops (suc k) n [] left h = record {
-  front = [];
-  rest = [];
-  parts = refl;
-  count = (let e : left ≡ 0 = cc in e);
-  goes_on = (replicate (suc k) 0, value_from n (replicate (suc k) 0), (zeros_long (suc k), refl), zeros_bytes (suc k));
-  no_further = λ d ds is cs. cc;
-}
+number_stops (suc k) n [] left h = stops_empty _ _ left (let e : left ≡ 0 = cc in e) (replicate (suc k) 0, value_from n (replicate (suc k) 0), (zeros_long (suc k), refl), zeros_bytes (suc k))
 number_stops (suc k) n (b ∷ bs) left h =
     let p = number_stops k (n * 256 + b) bs left h in
     record {
@@ -69,7 +64,7 @@ number_stops (suc k) n (b ∷ bs) left h =
 abbrev pub Free : {A : Type 0} → A → ℕ → Type 0
 Free _ _ = ⊤
 
-pub number_exact : (k n : ℕ) → Exact (number_at k n) (IsNumber k n) (Free {A = ℕ})
+pub number_exact : (k n : ℕ) → Exact (unsigned_at k n) (IsNumber k n) (Free {A = ℕ})
 number_exact k n = record {
   found = number_found k n;
   all = λ m front rest is h. number_all k n front rest is.0 ∙ ap (λ x. Ok (x, rest)) (sym is.1);
@@ -110,26 +105,10 @@ byte_stops_by : (t : Bool) (low x : ℕ) (xs : List ℕ) (left : ℕ) → low < 
 byte_stops_by true low x xs left w e h = cc
 byte_stops_by false low x xs left w e h =
     let k : left ≡ length xs + 1 = cc in
-    record {
-      front = [];
-      rest = x ∷ xs;
-      parts = refl;
-      count = k ∙ add-one (length xs);
-      goes_on = (low ∷ [], low, (first_of low w, refl), (w, tt));
-      no_further = λ d ds is cs.
-          let same : x ≡ d = cc in
-          subst (λ (y : ℕ). byte_from low (y ∷ cs) ≡ Err (length (y ∷ cs))) same (ap (λ t. cond {A = GotByte} t (Ok (x, cs)) (Err (length cs + 1))) e ∙ ap Err (add-one (length cs)));
-    }
+    stops_first (byte_from low) _ x xs left (k ∙ add-one (length xs)) (low ∷ [], low, (first_of low w, refl), (w, tt)) (λ cs. (ap (λ t. cond {A = GotByte} t (Ok (x, cs)) (Err (length cs + 1))) e ∙ ap Err (add-one (length cs))))
 
 byte_stops : (low : ℕ) → low < 256 → (text : List ℕ) (left : ℕ) → byte_from low text ≡ Err left → StopsAt (byte_from low) (IsByteFrom low) text left
-byte_stops low w [] left h = record {
-  front = [];
-  rest = [];
-  parts = refl;
-  count = (let e : left ≡ 0 = cc in e);
-  goes_on = (low ∷ [], low, (first_of low w, refl), (w, tt));
-  no_further = λ d ds is cs. cc;
-}
+byte_stops low w [] left h = stops_empty _ _ left (let e : left ≡ 0 = cc in e) (low ∷ [], low, (first_of low w, refl), (w, tt))
 byte_stops low w (x ∷ xs) left h = byte_stops_by (is_from low x) low x xs left w refl h
 
 pub byte_exact : (low : ℕ) → low < 256 → Exact (byte_from low) (IsByteFrom low) (Free {A = ℕ})
@@ -162,16 +141,16 @@ abbrev pub IsNine : ℕ → ℕ → List ℕ → Type 0
 IsNine c = Then (IsByteFrom (if c == 128 then 128 else 0)) (λ d. IsNumber 6 ((c - 128) * 256 + d))
 
 nine_exact : (c : ℕ) → Exact (nine_at c) (IsNine c) (Free {A = ℕ})
-nine_exact c = chosen_exact (if c == 128 then 128 else 0) (nine_low c) (λ d. number_at 6 ((c - 128) * 256 + d)) (λ d. IsNumber 6 ((c - 128) * 256 + d)) (λ d. number_exact 6 ((c - 128) * 256 + d)) (λ d. number_some 6 ((c - 128) * 256 + d))
+nine_exact c = chosen_exact (if c == 128 then 128 else 0) (nine_low c) (λ d. unsigned_at 6 ((c - 128) * 256 + d)) (λ d. IsNumber 6 ((c - 128) * 256 + d)) (λ d. number_exact 6 ((c - 128) * 256 + d)) (λ d. number_some 6 ((c - 128) * 256 + d))
 
 nine_some : (c : ℕ) → (m : ℕ) × (text : List ℕ) × IsNine c m text × AreBytes text
-nine_some c = chosen_some (if c == 128 then 128 else 0) (nine_low c) (λ d. number_at 6 ((c - 128) * 256 + d)) (λ d. IsNumber 6 ((c - 128) * 256 + d)) (λ d. number_exact 6 ((c - 128) * 256 + d)) (λ d. number_some 6 ((c - 128) * 256 + d))
+nine_some c = chosen_some (if c == 128 then 128 else 0) (nine_low c) (λ d. unsigned_at 6 ((c - 128) * 256 + d)) (λ d. IsNumber 6 ((c - 128) * 256 + d)) (λ d. number_exact 6 ((c - 128) * 256 + d)) (λ d. number_some 6 ((c - 128) * 256 + d))
 
 abbrev pub IsThirdBy : Bool → ℕ → ℕ → ℕ → ℕ → List ℕ → Type 0
 IsThirdBy true j b c = IsNine c
 IsThirdBy false j b c = IsNumber j ((b - base (suc j)) * 256 + c)
 
-third_exact_by : (t : Bool) (j b c : ℕ) → Exact (if t then nine_at c else number_at j ((b - base (suc j)) * 256 + c)) (IsThirdBy t j b c) (Free {A = ℕ})
+third_exact_by : (t : Bool) (j b c : ℕ) → Exact (if t then nine_at c else unsigned_at j ((b - base (suc j)) * 256 + c)) (IsThirdBy t j b c) (Free {A = ℕ})
 third_exact_by true j b c = nine_exact c
 third_exact_by false j b c = number_exact j ((b - base (suc j)) * 256 + c)
 

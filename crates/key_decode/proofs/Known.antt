@@ -4,19 +4,18 @@ use Rattle.std.specs.Str.{is_utf8}
 use Rattle.std.proofs.lemmas.Bool.Decides.{nat_tests}
 use Rattle.std.proofs.lemmas.List.{append-nil}
 use Rattle.std.proofs.Math.Seq.{take-append-add, take-append_seam}
-use Rattle.grammar.specs.Exact.{AreBytes}
 use Rattle.grammar.specs.Reading.{all_of}
 use Rattle.key_types.specs.Kinds as k
-use Rattle.key_types.specs.Kinds.{Kind, tiny, small, int, big, text, blob, boolean, tuple, reversed, Kinds, end, more, Val, number, bytes, truth, values, Vals, none, and, Fits, EachFits, all_bytes, fits_by, all_fit_by}
+use Rattle.key_types.specs.Kinds.{Kind, tiny, small, int, big, text, blob, boolean, tuple, reversed, Kinds, end, more, Val, number, bytes, truth, values, Vals, none, and, Fits, EachFits, all_bytes, fits_by, all_fit_by, AreBytes}
 use Rattle.key_types.specs.Layout.{count_of}
 use Rattle.byte_comparable.specs.Encoding.{key_string}
-use Rattle.byte_comparable.specs.Strings.{checked, first_misfit_from, string_of, value_count}
+use Rattle.byte_comparable.specs.Strings.{checked_string, first_misfit_from, string_of, value_count}
 use Rattle.byte_comparable.specs.declared.strings.KeyError.{KeyError}
 use Rattle.byte_comparable.specs.declared.strings.KeyError.TheVariants.{WrongCount, TooLong}
 use Rattle.key_decode.specs.Reading.{values_at}
 use Rattle.key_decode.specs.Shapes.{FitsAsBytes, EachFitsAsBytes}
 use Rattle.key_decode.specs.Passing.{IsUtf8Of, AreUtf8Of}
-use Rattle.key_decode.specs.Strings.{IsStringOf, Parts, BeginsString}
+use Rattle.key_decode.specs.Strings.{IsStringOf, SplitsString, BeginsString}
 use Rattle.key_decode.proofs.All.{values_exact}
 use Rattle.key_decode.proofs.Exact.{any}
 use Rattle.key_decode.proofs.Link.{all_back, each_fits_as_bytes}
@@ -238,7 +237,7 @@ all_fit i (more t ts) (and v vs) c m =
 -- the string of values that fit
 pub fitting : (ts : Kinds) (vs : Vals) → EachFits ts vs → length (key_string ts vs) ≤ 1024 → string_of ts vs ≡ Ok (key_string ts vs)
 fitting ts vs f short =
-    let all : checked None (key_string ts vs) ≡ Ok (key_string ts vs) = by (nat_lt 1024 (length (key_string ts vs))) refl in
+    let all : checked_string None (key_string ts vs) ≡ Ok (key_string ts vs) = by (nat_lt 1024 (length (key_string ts vs))) refl in
     rw (eq-eqb (value_count vs) (count_of ts) (same_count ts vs f), no_misfit 0 ts vs f) all
   where
     by : (t : Bool) → nat_lt 1024 (length (key_string ts vs)) ≡ t → cond t (Err (TooLong (length (key_string ts vs)))) (Ok (key_string ts vs)) ≡ Ok (key_string ts vs)
@@ -249,11 +248,11 @@ by_length : (t : Bool) (s b : List ℕ) (e : KeyError) → nat_lt 1024 (length s
 by_length true s b e h is = cc
 by_length false s b e h is = let same : s ≡ b = cc in (same, rw (← same) (ltb-false 1024 (length s) h))
 
-by_fit : (m : Option ℕ) (s b : List ℕ) → checked m s ≡ Ok b → (m ≡ None) × (s ≡ b) × (length b ≤ 1024)
+by_fit : (m : Option ℕ) (s b : List ℕ) → checked_string m s ≡ Ok b → (m ≡ None) × (s ≡ b) × (length b ≤ 1024)
 by_fit (Some i) s b is = cc
 by_fit None s b is = let p = by_length (nat_lt 1024 (length s)) s b (TooLong (length s)) refl is in (refl, p.0, p.1)
 
-by_count : (t : Bool) (m : Option ℕ) (s b : List ℕ) → cond t (checked m s) (Err WrongCount) ≡ Ok b → (t ≡ true) × (m ≡ None) × (s ≡ b) × (length b ≤ 1024)
+by_count : (t : Bool) (m : Option ℕ) (s b : List ℕ) → cond t (checked_string m s) (Err WrongCount) ≡ Ok b → (t ≡ true) × (m ≡ None) × (s ≡ b) × (length b ≤ 1024)
 by_count true m s b is = let p = by_fit m s b is in (refl, p.0, p.1, p.2)
 by_count false m s b is = cc
 
@@ -316,13 +315,13 @@ begun all front string rest n is short e =
     is ∙ ap (take n) e ∙ ap (λ m. take m (string ++ rest)) sum ∙ take-append-add string rest (n - length string)
 
 module _ (ts : Kinds) (all front : List ℕ) (n : ℕ) (is : front ≡ take n all) (most : n ≡ min (length all) 1024) where
-  reaches : (string rest : List ℕ) → Parts ts all string rest → length string ≤ n
+  reaches : (string rest : List ℕ) → SplitsString ts all string rest → length string ≤ n
   reaches string rest (s, e) =
       let short = string_length ts string s in
       let both : length all ≡ length string + length rest = ap length e ∙ length-append string rest in
       omega arith
 
-  pub only_front : (vs : Vals) (left : List ℕ) → values_at ts front ≡ Ok (vs, left) → (string rest : List ℕ) → Parts ts all string rest → length string ≡ length front - length left
+  pub only_front : (vs : Vals) (left : List ℕ) → values_at ts front ≡ Ok (vs, left) → (string rest : List ℕ) → SplitsString ts all string rest → length string ≡ length front - length left
   only_front vs left read string rest (s, e) =
       let more = take (n - length string) rest in
       let parts = begun all front string rest n is (reaches string rest (s, e)) e in
@@ -339,7 +338,7 @@ module _ (ts : Kinds) (all front : List ℕ) (n : ℕ) (is : front ≡ take n al
       never p.0 more p.1 (ap (values_at ts) (begun all front string rest n is (reaches string rest (s, e)) e) ∙ p.2)
 
 -- so many bytes are the string
-pub taken_front : (ts : Kinds) (all : List ℕ) (m : ℕ) → BeginsString ts all → ((string rest : List ℕ) → Parts ts all string rest → length string ≡ m) → IsStringOf ts (take m all) × (m ≤ length all)
+pub taken_front : (ts : Kinds) (all : List ℕ) (m : ℕ) → BeginsString ts all → ((string rest : List ℕ) → SplitsString ts all string rest → length string ≡ m) → IsStringOf ts (take m all) × (m ≤ length all)
 taken_front ts all m (string, rest, (s, e)) only =
     let long = only string rest (s, e) in
     let both : length all ≡ length string + length rest = ap length e ∙ length-append string rest in

@@ -3,17 +3,16 @@ use Rattle.std.proofs.Common.{◌≡◌, ℕ, zero, suc, ◌+◌, ◌-◌, ◌^�
 use Rattle.std.specs.Prelude.{ℤ, pos, negsuc, IsTrue}
 use Rattle.std.specs.Int.{bytes_high_first}
 use Rattle.std.proofs.lemmas.Bool.Decides.{nat_tests}
-use Rattle.grammar.specs.Exact.{AreBytes}
 use Rattle.grammar.proofs.Octets.{bytes_both}
 use Rattle.key_types.specs.Kinds as k
-use Rattle.key_types.specs.Kinds.{Kind, tiny, small, int, big, text, blob, boolean, tuple, reversed, Kinds, end, more, Val, number, bytes, truth, values, Vals, none, and, within, Fits, EachFits}
-use Rattle.byte_comparable.specs.Encoding.{encoding, components, key_string, complement, shifted, long_bytes, escaped}
+use Rattle.key_types.specs.Kinds.{Kind, tiny, small, int, big, text, blob, boolean, tuple, reversed, Kinds, end, more, Val, number, bytes, truth, values, Vals, none, and, within, Fits, EachFits, AreBytes}
+use Rattle.byte_comparable.specs.Encoding.{encoding, components, key_string, complement, unsigned_of, long_bytes, escaped}
 use Rattle.byte_comparable.proofs.Zeros.{plain, behind_zero, escaped_plain}
 use Rattle.byte_comparable.proofs.Compare.{bytes_complement}
 use Rattle.byte_comparable.proofs.Compose.{text_bytes}
 use Rattle.byte_comparable.proofs.Long.{big_are_bytes}
 use Rattle.byte_comparable.proofs.Numbers.{Within, in_7, in_15, in_31, shifted_below, small_mod, high_are_bytes}
-use Rattle.key_decode.specs.Reading.{turn, turned, lowered}
+use Rattle.key_decode.specs.Reading.{byte_complement, complemented, lowered}
 use Rattle.key_decode.specs.Shapes.{FitsAsBytes, EachFitsAsBytes}
 use Rattle.key_decode.proofs.Exact.{value_from, IsLong}
 use Rattle.key_decode.proofs.Turn.{all_twice, turned_bytes}
@@ -46,22 +45,22 @@ mutual
   of_behind (zero ∷ bs) h = (omega arith, of_behind bs h.1)
   of_behind (suc b ∷ bs) h = (h.1.0, of_plain bs h.1.1)
 
-turn_is : (b : ℕ) → b < 256 → turn b ≡ 255 - b
+turn_is : (b : ℕ) → b < 256 → byte_complement b ≡ 255 - b
 turn_is b h = grind (arith, nat_tests)
 
-turned_complement : (xs : List ℕ) → AreBytes xs → turned xs ≡ complement xs
+turned_complement : (xs : List ℕ) → AreBytes xs → complemented xs ≡ complement xs
 turned_complement [] h = refl
-turned_complement (x ∷ xs) h = ap (λ y. y ∷ turned xs) (turn_is x h.0) ∙ ap (λ l. (255 - x) ∷ l) (turned_complement xs h.1)
+turned_complement (x ∷ xs) h = ap (λ y. y ∷ complemented xs) (turn_is x h.0) ∙ ap (λ l. (255 - x) ∷ l) (turned_complement xs h.1)
 
-turned_back : (xs : List ℕ) → AreBytes xs → turned (complement xs) ≡ xs
-turned_back xs h = ap turned (sym (turned_complement xs h)) ∙ all_twice xs
+turned_back : (xs : List ℕ) → AreBytes xs → complemented (complement xs) ≡ xs
+turned_back xs h = ap complemented (sym (turned_complement xs h)) ∙ all_twice xs
 
 -- ---- what is read
 
 abbrev Linked : Kind → Val → List ℕ → Type 0
 Linked t v bs = FitsAsBytes t v × (bs ≡ encoding t v)
 
-signed_link : (n half : ℕ) (v : Val) (bs : List ℕ) → IsSigned n half v bs → AreBytes bs → half + half ≡ 256 ^ n → (x : ℤ) × (v ≡ number x) × Within half x × (bs ≡ bytes_high_first n (shifted half x))
+signed_link : (n half : ℕ) (v : Val) (bs : List ℕ) → IsSigned n half v bs → AreBytes bs → half + half ≡ 256 ^ n → (x : ℤ) × (v ≡ number x) × Within half x × (bs ≡ bytes_high_first n (unsigned_of half x))
 signed_link n half v bs is h e =
     let m = is.0 in
     let small : m < 256 ^ n = subst (λ (x : ℕ). x < 256 ^ n) (sym is.1.1) (subst (λ (x : ℕ). value_from 0 bs < 256 ^ x) is.1.0 (from_below bs h)) in (
@@ -76,9 +75,9 @@ big_link v bs (inl is) h =
     let p = long_found is.0 bs is.1 h in
     subst (λ (w : Val). Linked big w bs) (sym is.2) (of_63 (pos is.0) p.0, p.1)
 big_link v bs (inr is) h =
-    let p = long_found is.0 (turned bs) is.1 (turned_bytes bs h) in
+    let p = long_found is.0 (complemented bs) is.1 (turned_bytes bs h) in
     let whole : bs ≡ complement (long_bytes is.0) =
-    sym (all_twice bs) ∙ ap turned p.1 ∙ turned_complement (long_bytes is.0) (subst AreBytes p.1 (turned_bytes bs h)) in
+    sym (all_twice bs) ∙ ap complemented p.1 ∙ turned_complement (long_bytes is.0) (subst AreBytes p.1 (turned_bytes bs h)) in
     subst (λ (w : Val). Linked big w bs) (sym is.2) (of_63 (negsuc is.0) p.0, whole)
 
 truth_bytes : (b : Bool) → cond b 1 0 ∷ [] ≡ encoding boolean (truth b)
@@ -99,8 +98,8 @@ mutual
   link boolean v bs is h = subst (λ (w : Val). Linked boolean w bs) (sym is.1) (tt, is.2 ∙ truth_bytes is.0)
   link (tuple ts) v bs is h = subst (λ (w : Val). Linked (tuple ts) w bs) (sym is.2) (all_link ts is.0 bs is.1 h)
   link (reversed t) v bs is h =
-      let p = link t v (turned bs) is (turned_bytes bs h) in
-      (p.0, sym (all_twice bs) ∙ ap turned p.1 ∙ turned_complement (encoding t v) (subst AreBytes p.1 (turned_bytes bs h)))
+      let p = link t v (complemented bs) is (turned_bytes bs h) in
+      (p.0, sym (all_twice bs) ∙ ap complemented p.1 ∙ turned_complement (encoding t v) (subst AreBytes p.1 (turned_bytes bs h)))
 
   pub all_link : (ts : Kinds) (vs : Vals) (bs : List ℕ) → AreRead ts vs bs → AreBytes bs → EachFitsAsBytes ts vs × (bs ≡ key_string ts vs)
   all_link end vs bs is h = subst (λ (w : Vals). EachFitsAsBytes end w × (bs ≡ key_string end w)) (sym is.2) (tt, is.1)
@@ -122,9 +121,9 @@ mutual
 abbrev Backed : Kind → Val → Type 0
 Backed t v = IsRead t v (encoding t v) × AreBytes (encoding t v)
 
-signed_back : (n half : ℕ) (x : ℤ) → Within half x → half + half ≡ 256 ^ n → IsSigned n half (number x) (bytes_high_first n (shifted half x)) × AreBytes (bytes_high_first n (shifted half x))
+signed_back : (n half : ℕ) (x : ℤ) → Within half x → half + half ≡ 256 ^ n → IsSigned n half (number x) (bytes_high_first n (unsigned_of half x)) × AreBytes (bytes_high_first n (unsigned_of half x))
 signed_back n half x w e =
-    let m = shifted half x in
+    let m = unsigned_of half x in
     let low = shifted_below half x w in
     let small : m % 256 ^ n ≡ m = small_mod m (256 ^ n) (omega arith) in
     let sum = from_bytes 0 n m in

@@ -1,7 +1,7 @@
 -- Room for a number with one byte more.
 use Rattle.std.proofs.Common.{◌≡◌, ℕ, zero, suc, ◌+◌, ◌*◌, ◌^◌, ◌<◌, ◌≤◌, List, ◌∷◌, arith, sym, ◌∙◌, ap}
 use Rattle.std.proofs.lemmas.Nat.{mul-le}
-use Rattle.key_decode.specs.Reading.{number_at}
+use Rattle.key_decode.specs.Reading.{unsigned_at}
 use Rattle.byte_comparable.proofs.Numbers.{positive}
 
 spread : (n p : ℕ) → ((n + 1) * 256) * p ≡ (n + 1) * (256 * p)
@@ -20,8 +20,8 @@ room n c k b e h w =
     let one : ((n + 1) * 256) * 1 ≤ ((n + 1) * 256) * 256 ^ k = mul-le ((n + 1) * 256) 1 ((n + 1) * 256) (256 ^ k) (omega arith) (let p = positive k in omega arith) in
     record { fits = omega arith; next = omega arith; within = omega arith }
 
-pub number_next : (c k n b : ℕ) (all rest : List ℕ) → c ≡ suc k → all ≡ b ∷ rest → number_at k (n * 256 + b) rest ≡ number_at c n all
-number_next c k n b all rest e l = sym (ap (λ x. number_at x n all) e ∙ ap (number_at (suc k) n) l)
+pub number_next : (c k n b : ℕ) (all rest : List ℕ) → c ≡ suc k → all ≡ b ∷ rest → unsigned_at k (n * 256 + b) rest ≡ unsigned_at c n all
+number_next c k n b all rest e l = sym (ap (λ x. unsigned_at x n all) e ∙ ap (unsigned_at (suc k) n) l)
 
 pub small_room : (x k : ℕ) → x < 2 ^ 15 → k ≤ 6 → (x + 1) * 256 ^ k ≤ 2 ^ 64
 small_room x zero h l = omega arith

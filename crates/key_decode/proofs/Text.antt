@@ -4,7 +4,9 @@ use Rattle.std.proofs.lemmas.Bool.Decides.{nat_tests}
 use Rattle.byte_comparable.specs.Encoding.{escaped}
 use Rattle.byte_comparable.proofs.Zeros.{plain, behind_zero, escaped_plain}
 use Rattle.grammar.specs.Exact.{Exact, StopsAt, Begins}
-use Rattle.key_decode.specs.Reading.{onto, text_at, behind, after_run, Ends}
+use Rattle.key_decode.specs.Reading.{text_at, after_zero, after_run, EndsText}
+use Rattle.grammar.specs.Reading.{onto}
+use Rattle.grammar.proofs.Front.{stops_first, stops_empty}
 
 -- the bytes of a text
 abbrev pub IsText : List ℕ → List ℕ → Type 0
@@ -53,7 +55,7 @@ abbrev FoundText : List ℕ → Type 0
 FoundText bs = (a rest : List ℕ) → text_at bs ≡ Ok (a, rest) → bs ≡ plain a ++ rest
 
 abbrev FoundBehind : List ℕ → Type 0
-FoundBehind bs = (a rest : List ℕ) → behind bs ≡ Ok (a, rest) → 0 ∷ bs ≡ plain a ++ rest
+FoundBehind bs = (a rest : List ℕ) → after_zero bs ≡ Ok (a, rest) → 0 ∷ bs ≡ plain a ++ rest
 
 abbrev FoundAfter : List ℕ → Type 0
 FoundAfter bs = (a rest : List ℕ) → after_run bs ≡ Ok (a, rest) → (bs ≡ plain a ++ rest) × (0xFF ∷ bs ≡ behind_zero a ++ rest)
@@ -62,7 +64,7 @@ one_byte : (b : ℕ) (bs a rest : List ℕ) → (b == 0) ≡ false → bs ≡ pl
 one_byte zero bs a rest e h = let no : true ≡ false = e in cc
 one_byte (suc b) bs a rest e h = (ap (λ l. suc b ∷ l) h, ap (λ l. 0xFF ∷ suc b ∷ l) h)
 
-text_by : (t : Bool) (b : ℕ) (bs a rest : List ℕ) → (b == 0) ≡ t → cond t (behind bs) (onto b (text_at bs)) ≡ Ok (a, rest) → FoundText bs → FoundBehind bs → b ∷ bs ≡ plain a ++ rest
+text_by : (t : Bool) (b : ℕ) (bs a rest : List ℕ) → (b == 0) ≡ t → cond t (after_zero bs) (onto b (text_at bs)) ≡ Ok (a, rest) → FoundText bs → FoundBehind bs → b ∷ bs ≡ plain a ++ rest
 text_by true b bs a rest e h f g = ap (λ x. x ∷ bs) (same_byte b 0 e) ∙ g a rest h
 text_by false b bs a rest e h f g =
     let p = split_onto b (text_at bs) a rest h in
@@ -82,9 +84,9 @@ ended b bs a rest h =
     ap (λ q. plain q.0 ++ q.1) pairs
 
 behind_by : (t u : Bool) (b : ℕ) (bs a rest : List ℕ) → (b == 0xFE) ≡ t → (b == 0xFF) ≡ u
-    → cond t (onto 0 (behind bs)) (cond u (onto 0 (after_run bs)) (Ok ([], b ∷ bs))) ≡ Ok (a, rest) → FoundBehind bs → FoundAfter bs → 0 ∷ b ∷ bs ≡ plain a ++ rest
+    → cond t (onto 0 (after_zero bs)) (cond u (onto 0 (after_run bs)) (Ok ([], b ∷ bs))) ≡ Ok (a, rest) → FoundBehind bs → FoundAfter bs → 0 ∷ b ∷ bs ≡ plain a ++ rest
 behind_by true u b bs a rest e g h f k =
-    let p = split_onto 0 (behind bs) a rest h in
+    let p = split_onto 0 (after_zero bs) a rest h in
     ap (λ x. 0 ∷ x ∷ bs) (same_byte b 0xFE e) ∙ ap (λ l. 0 ∷ l) (zero_front p.0 bs rest (f p.0 rest p.1)) ∙ ap (λ l. plain l ++ rest) (sym p.2)
 behind_by false true b bs a rest e g h f k =
     let p = split_onto 0 (after_run bs) a rest h in
@@ -106,17 +108,17 @@ mutual
 
 -- ---- all
 
-ends_here : (rest : List ℕ) → Begins Ends rest → behind rest ≡ Ok ([], rest)
+ends_here : (rest : List ℕ) → Begins EndsText rest → after_zero rest ≡ Ok ([], rest)
 ends_here [] h = refl
 ends_here (b ∷ bs) h = rw (h.0, h.1) refl
 
 mutual
-  all_text : (a rest : List ℕ) → Begins Ends rest → text_at (plain a ++ rest) ≡ Ok (a, rest)
+  all_text : (a rest : List ℕ) → Begins EndsText rest → text_at (plain a ++ rest) ≡ Ok (a, rest)
   all_text [] rest h = ends_here rest h
   all_text (zero ∷ a) rest h = all_zero a rest h
   all_text (suc b ∷ a) rest h = rw (positive b) (ap (onto (suc b)) (all_text a rest h))
 
-  all_zero : (a rest : List ℕ) → Begins Ends rest → behind (behind_zero a ++ rest) ≡ Ok (0 ∷ a, rest)
+  all_zero : (a rest : List ℕ) → Begins EndsText rest → after_zero (behind_zero a ++ rest) ≡ Ok (0 ∷ a, rest)
   all_zero [] rest h = ap (onto 0) (ends_here rest h)
   all_zero (zero ∷ a) rest h = ap (onto 0) (all_zero a rest h)
   all_zero (suc b ∷ a) rest h = rw (positive b) (ap (λ r. onto 0 (onto (suc b) r)) (all_text a rest h))
@@ -124,12 +126,12 @@ mutual
 -- ---- next
 
 abbrev NextOf : Result (List ℕ × List ℕ) ℕ → Type 0
-NextOf got = (a : List ℕ) (b : ℕ) (bs : List ℕ) → got ≡ Ok (a, b ∷ bs) → Ends b
+NextOf got = (a : List ℕ) (b : ℕ) (bs : List ℕ) → got ≡ Ok (a, b ∷ bs) → EndsText b
 
 next_onto : (x : ℕ) (got : Result (List ℕ × List ℕ) ℕ) → NextOf got → NextOf (onto x got)
 next_onto x got n a b bs h = let p = split_onto x got a (b ∷ bs) h in n p.0 b bs p.1
 
-next_text_by : (t : Bool) (b : ℕ) (bs : List ℕ) → NextOf (behind bs) → NextOf (text_at bs) → NextOf (cond t (behind bs) (onto b (text_at bs)))
+next_text_by : (t : Bool) (b : ℕ) (bs : List ℕ) → NextOf (after_zero bs) → NextOf (text_at bs) → NextOf (cond t (after_zero bs) (onto b (text_at bs)))
 next_text_by true b bs n m = n
 next_text_by false b bs n m = next_onto b (text_at bs) m
 
@@ -137,21 +139,21 @@ next_after_by : (t : Bool) (b : ℕ) (bs : List ℕ) → NextOf (text_at bs) →
 next_after_by true b bs m = λ a c cs h. cc
 next_after_by false b bs m = next_onto b (text_at bs) m
 
-next_behind_by : (t u : Bool) (b : ℕ) (bs : List ℕ) → (b == 0xFE) ≡ t → (b == 0xFF) ≡ u → NextOf (behind bs) → NextOf (after_run bs) → NextOf (cond t (onto 0 (behind bs)) (cond u (onto 0 (after_run bs)) (Ok ([], b ∷ bs))))
-next_behind_by true u b bs e g n m = next_onto 0 (behind bs) n
+next_behind_by : (t u : Bool) (b : ℕ) (bs : List ℕ) → (b == 0xFE) ≡ t → (b == 0xFF) ≡ u → NextOf (after_zero bs) → NextOf (after_run bs) → NextOf (cond t (onto 0 (after_zero bs)) (cond u (onto 0 (after_run bs)) (Ok ([], b ∷ bs))))
+next_behind_by true u b bs e g n m = next_onto 0 (after_zero bs) n
 next_behind_by false true b bs e g n m = next_onto 0 (after_run bs) m
 next_behind_by false false b bs e g n m = λ a c cs h.
     let pairs : ◌≡◌ {A = List ℕ × List ℕ} ([], b ∷ bs) (a, c ∷ cs) = cc in
     let lists : b ∷ bs ≡ c ∷ cs = ap (λ q. q.1) pairs in
     let same : b ≡ c = cc in
-    subst Ends same (e, g)
+    subst EndsText same (e, g)
 
 mutual
   next_text : (bs : List ℕ) → NextOf (text_at bs)
   next_text [] = λ a c cs h. cc
   next_text (b ∷ bs) = next_text_by (b == 0) b bs (next_behind bs) (next_text bs)
 
-  next_behind : (bs : List ℕ) → NextOf (behind bs)
+  next_behind : (bs : List ℕ) → NextOf (after_zero bs)
   next_behind [] = λ a c cs h. let pairs : ◌≡◌ {A = List ℕ × List ℕ} ([], []) (a, c ∷ cs) = cc in let lists : [] ≡ c ∷ cs = ap (λ q. q.1) pairs in cc
   next_behind (b ∷ bs) = next_behind_by (b == 0xFE) (b == 0xFF) b bs refl refl (next_behind bs) (next_after bs)
 
@@ -179,7 +181,7 @@ abbrev StopsText : List ℕ → Type 0
 StopsText bs = (left : ℕ) → text_at bs ≡ Err left → StopsAt text_at Plain bs left
 
 abbrev StopsBehind : List ℕ → Type 0
-StopsBehind bs = (left : ℕ) → behind bs ≡ Err left → StopsAt behind Behind bs left
+StopsBehind bs = (left : ℕ) → after_zero bs ≡ Err left → StopsAt after_zero Behind bs left
 
 abbrev StopsAfter : List ℕ → Type 0
 StopsAfter bs = (left : ℕ) → after_run bs ≡ Err left → StopsAt after_run After bs left
@@ -193,34 +195,27 @@ zero_more [] cs h = let e : cs ≡ [] = cc in ap (λ l. 0xFE ∷ l) e
 zero_more (zero ∷ a) cs h = let e : cs ≡ behind_zero a = cc in ap (λ l. 0xFE ∷ l) e
 zero_more (suc x ∷ a) cs h = let e : 0 ≡ suc x = cc in absurd (omega arith)
 
-stops_text_by : (t : Bool) (b : ℕ) (bs : List ℕ) (left : ℕ) → (b == 0) ≡ t → cond t (behind bs) (onto b (text_at bs)) ≡ Err left → StopsText bs → StopsBehind bs → StopsAt text_at Plain (b ∷ bs) left
-stops_text_by true b bs left e h s t = one_more text_at behind Plain Behind b bs left (λ cs n k. rw e k) (λ a cs is. (a, ap (λ x. x ∷ cs) (same_byte b 0 e) ∙ is)) (t left h)
+stops_text_by : (t : Bool) (b : ℕ) (bs : List ℕ) (left : ℕ) → (b == 0) ≡ t → cond t (after_zero bs) (onto b (text_at bs)) ≡ Err left → StopsText bs → StopsBehind bs → StopsAt text_at Plain (b ∷ bs) left
+stops_text_by true b bs left e h s t = one_more text_at after_zero Plain Behind b bs left (λ cs n k. rw e k) (λ a cs is. (a, ap (λ x. x ∷ cs) (same_byte b 0 e) ∙ is)) (t left h)
 stops_text_by false b bs left e h s t = one_more text_at text_at Plain Plain b bs left (λ cs n k. rw e (ap (onto b) k)) (λ a cs is. (b ∷ a, (plain_more b a cs e is).0)) (s left (err_onto b (text_at bs) left h))
 
-stops_behind_by : (t u : Bool) (b : ℕ) (bs : List ℕ) (left : ℕ) → (b == 0xFE) ≡ t → (b == 0xFF) ≡ u → cond t (onto 0 (behind bs)) (cond u (onto 0 (after_run bs)) (Ok ([], b ∷ bs))) ≡ Err left
-    → StopsBehind bs → StopsAfter bs → StopsAt behind Behind (b ∷ bs) left
-stops_behind_by true u b bs left e g h s t = one_more behind behind Behind Behind b bs left (λ cs n k. rw e (ap (onto 0) k))
-    (λ a cs is. (0 ∷ a, ap (λ x. 0 ∷ x ∷ cs) (same_byte b 0xFE e) ∙ ap (λ l. 0 ∷ l) (zero_more a cs is))) (s left (err_onto 0 (behind bs) left h))
-stops_behind_by false true b bs left e g h s t = one_more behind after_run Behind After b bs left (λ cs n k. rw (e, g) (ap (onto 0) k))
+stops_behind_by : (t u : Bool) (b : ℕ) (bs : List ℕ) (left : ℕ) → (b == 0xFE) ≡ t → (b == 0xFF) ≡ u → cond t (onto 0 (after_zero bs)) (cond u (onto 0 (after_run bs)) (Ok ([], b ∷ bs))) ≡ Err left
+    → StopsBehind bs → StopsAfter bs → StopsAt after_zero Behind (b ∷ bs) left
+stops_behind_by true u b bs left e g h s t = one_more after_zero after_zero Behind Behind b bs left (λ cs n k. rw e (ap (onto 0) k))
+    (λ a cs is. (0 ∷ a, ap (λ x. 0 ∷ x ∷ cs) (same_byte b 0xFE e) ∙ ap (λ l. 0 ∷ l) (zero_more a cs is))) (s left (err_onto 0 (after_zero bs) left h))
+stops_behind_by false true b bs left e g h s t = one_more after_zero after_run Behind After b bs left (λ cs n k. rw (e, g) (ap (onto 0) k))
     (λ a cs is. (0 ∷ a, ap (λ x. 0 ∷ x ∷ cs) (same_byte b 0xFF g) ∙ ap (λ l. 0 ∷ l) is.1)) (t left (err_onto 0 (after_run bs) left h))
 stops_behind_by false false b bs left e g h s t = cc
 
 stops_after_by : (t : Bool) (b : ℕ) (bs : List ℕ) (left : ℕ) → (b == 0) ≡ t → cond {A = Result (List ℕ × List ℕ) ℕ} t (Err (length bs + 1)) (onto b (text_at bs)) ≡ Err left → StopsText bs → StopsAt after_run After (b ∷ bs) left
 stops_after_by true b bs left e h s =
     let count : left ≡ length bs + 1 = cc in
-    record {
-      front = [];
-      rest = b ∷ bs;
-      parts = refl;
-      count = count ∙ add-one (length bs);
-      goes_on = (1 ∷ 0 ∷ [], 1 ∷ [], (refl, refl), (omega arith, (omega arith, tt)));
-      no_further = λ d ds is cs. let same : b ≡ d = cc in subst (λ (x : ℕ). after_run (x ∷ cs) ≡ Err (length (x ∷ cs))) same (rw (e, add-one) refl);
-    }
+    stops_first after_run _ b bs left (count ∙ add-one (length bs)) (1 ∷ 0 ∷ [], 1 ∷ [], (refl, refl), (omega arith, (omega arith, tt))) (λ cs. (rw (e, add-one) refl))
 stops_after_by false b bs left e h s = one_more after_run text_at After Plain b bs left (λ cs n k. rw e (ap (onto b) k)) (λ a cs is. (b ∷ a, plain_more b a cs e is)) (s left (err_onto b (text_at bs) left h))
 
 mutual
   stops_text : (bs : List ℕ) → StopsText bs
-  stops_text [] left h = record { front = []; rest = []; parts = refl; count = (let e : left ≡ 0 = cc in e); goes_on = (0 ∷ [], [], refl, (omega arith, tt)); no_further = λ d ds is cs. cc }
+  stops_text [] left h = stops_empty _ _ left (let e : left ≡ 0 = cc in e) (0 ∷ [], [], refl, (omega arith, tt))
   stops_text (b ∷ bs) left h = stops_text_by (b == 0) b bs left refl h (stops_text bs) (stops_behind bs)
 
   stops_behind : (bs : List ℕ) → StopsBehind bs
@@ -228,7 +223,7 @@ mutual
   stops_behind (b ∷ bs) left h = stops_behind_by (b == 0xFE) (b == 0xFF) b bs left refl refl h (stops_behind bs) (stops_after bs)
 
   stops_after : (bs : List ℕ) → StopsAfter bs
-  stops_after [] left h = record { front = []; rest = []; parts = refl; count = (let e : left ≡ 0 = cc in e); goes_on = (1 ∷ 0 ∷ [], 1 ∷ [], (refl, refl), (omega arith, (omega arith, tt))); no_further = λ d ds is cs. cc }
+  stops_after [] left h = stops_empty _ _ left (let e : left ≡ 0 = cc in e) (1 ∷ 0 ∷ [], 1 ∷ [], (refl, refl), (omega arith, (omega arith, tt)))
   stops_after (b ∷ bs) left h = stops_after_by (b == 0) b bs left refl h (stops_text bs)
 
 -- the same of the form with whole runs
@@ -242,7 +237,7 @@ as_text bs left s = record {
   no_further = s.no_further;
 }
 
-pub text_exact : Exact text_at IsText (λ _. Ends)
+pub text_exact : Exact text_at IsText (λ _. EndsText)
 text_exact = record {
   found = λ text a rest h. (plain a, found_text text a rest h, sym (escaped_plain a));
   all = λ a front rest is h. ap (λ l. text_at (l ++ rest)) (is ∙ escaped_plain a) ∙ all_text a rest h;

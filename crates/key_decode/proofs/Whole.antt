@@ -1,13 +1,12 @@
 -- What is answered for whole values and lists of values.
 use Rattle.std.proofs.Common.{◌≡◌, ℕ, ◌≤◌, Bool, true, false, List, length, Ok, Err}
-use Rattle.grammar.specs.Exact.{AreBytes}
 use Rattle.grammar.specs.Reading.{whole}
-use Rattle.key_types.specs.Kinds.{Kind, Kinds, Val, Vals, Fits, EachFits, value_of, values_of}
+use Rattle.key_types.specs.Kinds.{Kind, Kinds, Val, Vals, Fits, EachFits, value_of, values_of, AreBytes}
 use Rattle.key_types.specs.declared.kinds.Value.{Value}
 use Rattle.key_types.specs.declared.kinds.ValueList.{ValueList}
 use Rattle.byte_comparable.specs.Encoding.{encoding, key_string}
 use Rattle.key_decode.specs.Reading.{value_at, values_at}
-use Rattle.key_decode.specs.Shapes.{FitsAsBytes, EachFitsAsBytes, Decodes, DecodesAll, Refuses, refusal_of}
+use Rattle.key_decode.specs.Shapes.{FitsAsBytes, EachFitsAsBytes, Decodes, DecodesAll, RefusesBytes, refusal_of}
 use Rattle.key_decode.proofs.All.{IsRead, AreRead, MayFollow, value_exact, values_exact}
 use Rattle.key_decode.proofs.Exact.{Free}
 use Rattle.key_decode.proofs.Link.{link, all_link, back, all_back, fit_as_bytes, each_fits_as_bytes}
@@ -26,7 +25,7 @@ module _ (t : Kind) (bytes : List ℕ) where
   pub value_refused : (left : ℕ) → AreBytes bytes → whole (value_at t) bytes ≡ Err left → Decodes t bytes (Err (refusal_of (length bytes) left))
   value_refused left h e = refused (value_at t) (IsRead t) (λ _. MayFollow t) (value_exact t) (encoding t) (FitsAsBytes t) (Fits t) value_of (link t) (back t) (fit_as_bytes t) bytes left h e
 
-  pub value_refuses : (left : ℕ) → whole (value_at t) bytes ≡ Err left → Refuses {X = Value} (encoding t) (Fits t) bytes (Err (refusal_of (length bytes) left))
+  pub value_refuses : (left : ℕ) → whole (value_at t) bytes ≡ Err left → RefusesBytes {X = Value} (encoding t) (Fits t) bytes (Err (refusal_of (length bytes) left))
   value_refuses left e = refuses (value_at t) (IsRead t) (λ _. MayFollow t) (value_exact t) (encoding t) (FitsAsBytes t) (Fits t) value_of (link t) (back t) (fit_as_bytes t) bytes left e
 
 module _ (ts : Kinds) (bytes : List ℕ) where
@@ -42,7 +41,7 @@ module _ (ts : Kinds) (bytes : List ℕ) where
   pub values_refused : (left : ℕ) → AreBytes bytes → whole (values_at ts) bytes ≡ Err left → DecodesAll ts bytes (Err (refusal_of (length bytes) left))
   values_refused left h e = refused (values_at ts) (AreRead ts) (Free {A = Vals}) (values_exact ts) (key_string ts) (EachFitsAsBytes ts) (EachFits ts) values_of (all_link ts) (all_back ts) (each_fits_as_bytes ts) bytes left h e
 
-  pub values_refuses : (left : ℕ) → whole (values_at ts) bytes ≡ Err left → Refuses {X = ValueList} (key_string ts) (EachFits ts) bytes (Err (refusal_of (length bytes) left))
+  pub values_refuses : (left : ℕ) → whole (values_at ts) bytes ≡ Err left → RefusesBytes {X = ValueList} (key_string ts) (EachFits ts) bytes (Err (refusal_of (length bytes) left))
   values_refuses left e = refuses (values_at ts) (AreRead ts) (Free {A = Vals}) (values_exact ts) (key_string ts) (EachFitsAsBytes ts) (EachFits ts) values_of (all_link ts) (all_back ts) (each_fits_as_bytes ts) bytes left e
 
 pub never : (P : Type 0) (b : Bool) → (P → b ≡ true) → b ≡ false → P → ⊥

@@ -16,6 +16,6 @@ abbrev mutual
   AreUtf8Of _ _ = Unit {0}
 
 -- where something is left, a good value is read before it; and else none is
-abbrev pub Passes : {A X : Type 0} → (A → Type 0) → (X → List ℕ) → Option X → Result (A × List ℕ) ℕ → Type 0
-Passes {A} Good view (Some x) read = (a : A) × Good a × (read ≡ Ok (a, view x))
-Passes {A} Good view None read = (a : A) (rest : List ℕ) → Good a → read ≡ Ok (a, rest) → ⊥
+abbrev pub Skips : {A X : Type 0} → (A → Type 0) → (X → List ℕ) → Option X → Result (A × List ℕ) ℕ → Type 0
+Skips {A} Good view (Some x) read = (a : A) × Good a × (read ≡ Ok (a, view x))
+Skips {A} Good view None read = (a : A) (rest : List ℕ) → Good a → read ≡ Ok (a, rest) → ⊥

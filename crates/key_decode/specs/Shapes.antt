@@ -52,7 +52,7 @@ abbrev pub refusal_of : ℕ → ℕ → DecodeError
 refusal_of all left = if left == 0 then Truncated else BadByte (all - left)
 
 -- bytes that are refused are the encoding of no value that fits
-abbrev pub Refuses : {X A : Type 0} → (A → List ℕ) → (A → Type 0) → List ℕ → Result X DecodeError → Type 0
-Refuses spelled Fit bs (Ok x) = Unit {0}
-Refuses spelled Fit bs (Err NoMemory) = Unit {0}
-Refuses {X} {A} spelled Fit bs (Err e) = (a : A) → Fit a → bs ≡ spelled a → ⊥
+abbrev pub RefusesBytes : {X A : Type 0} → (A → List ℕ) → (A → Type 0) → List ℕ → Result X DecodeError → Type 0
+RefusesBytes spelled Fit bs (Ok x) = Unit {0}
+RefusesBytes spelled Fit bs (Err NoMemory) = Unit {0}
+RefusesBytes {X} {A} spelled Fit bs (Err e) = (a : A) → Fit a → bs ≡ spelled a → ⊥

@@ -8,9 +8,9 @@ abbrev pub IsStringOf : Kinds → List ℕ → Type 0
 IsStringOf kinds bytes = (components : Vals) × (string_of kinds components ≡ Ok bytes)
 
 -- the bytes begin with a string of these types, behind which these stand
-abbrev pub Parts : Kinds → List ℕ → List ℕ → List ℕ → Type 0
-Parts kinds bytes string rest = IsStringOf kinds string × (bytes ≡ string ++ rest)
+abbrev pub SplitsString : Kinds → List ℕ → List ℕ → List ℕ → Type 0
+SplitsString kinds bytes string rest = IsStringOf kinds string × (bytes ≡ string ++ rest)
 
 -- the bytes begin with a string of these types
 abbrev pub BeginsString : Kinds → List ℕ → Type 0
-BeginsString kinds bytes = (string : List ℕ) × (rest : List ℕ) × Parts kinds bytes string rest
+BeginsString kinds bytes = (string : List ℕ) × (rest : List ℕ) × SplitsString kinds bytes string rest

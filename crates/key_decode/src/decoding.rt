@@ -1,26 +1,32 @@
+//! Values from whole encodings and strings, with the exact refusals.
 ghost use Rattle.std.specs.Prelude.{◌≡◌, ◌≤◌};
 ghost use Rattle.grammar.specs.Code.{Gives};
 ghost use Rattle.grammar.specs.Reading.{whole};
 ghost use Rattle.key_types.specs.Kinds.{kind_of, kinds_of, value_of, values_of, Fits, EachFits};
 ghost use Rattle.byte_comparable.specs.Encoding.{encoding, key_string};
 ghost use Rattle.key_decode.specs.Reading.{value_at, values_at};
-ghost use Rattle.key_decode.specs.Shapes.{Decodes, DecodesAll, Refuses, refusal_of};
+ghost use Rattle.key_decode.specs.Shapes.{Decodes, DecodesAll, RefusesBytes, refusal_of};
 
 use crate::values::{read_value, read_values};
 use grammar::Stop;
 use key_types::{ColType, Schema, TypeList, Value, ValueList, all_fit, fits};
 use std::alloc::Global;
+use thiserror::Error;
 
 /// Why bytes are no encoding.
-#[derive(Clone, Copy, Debug, PartialEq, Eq)]
+#[derive(Clone, Copy, Debug, PartialEq, Eq, Error)]
 pub enum DecodeError {
     /// The bytes begin a shape of the type, and are none.
+    #[error("the bytes end early")]
     Truncated,
     /// The bytes before this place, from 0, begin a shape of the type, and with the byte there they don't.
+    #[error("bad byte at {0}")]
     BadByte(usize),
     /// The bytes are a shape of the type, and a text in it isn't UTF-8.
+    #[error("a text is not UTF-8")]
     BadUtf8,
     /// Memory ran out.
+    #[error("out of memory")]
     NoMemory,
 }
 
@@ -63,7 +69,7 @@ fn whole_values(alloc: Global, kinds: &TypeList, bytes: &[u8]) -> Result<ValueLi
 /// The value whose encoding the bytes are.
 pub fn decode(alloc: Global, kind: &ColType, bytes: &[u8]) -> Result<Value, DecodeError>
     ensures exact { Decodes (kind_of kind.now) bytes.now result }
-    ensures refused { Refuses (encoding (kind_of kind.now)) (Fits (kind_of kind.now)) bytes.now result }
+    ensures refused { RefusesBytes (encoding (kind_of kind.now)) (Fits (kind_of kind.now)) bytes.now result }
 {
     match whole_value(alloc, kind, bytes) {
         Ok(value) => {
@@ -81,7 +87,7 @@ pub fn decode(alloc: Global, kind: &ColType, bytes: &[u8]) -> Result<Value, Deco
 /// The values whose string the bytes are.
 fn decode_all(alloc: Global, kinds: &TypeList, bytes: &[u8]) -> Result<ValueList, DecodeError>
     ensures exact { DecodesAll (kinds_of kinds.now) bytes.now result }
-    ensures refused { Refuses (key_string (kinds_of kinds.now)) (EachFits (kinds_of kinds.now)) bytes.now result }
+    ensures refused { RefusesBytes (key_string (kinds_of kinds.now)) (EachFits (kinds_of kinds.now)) bytes.now result }
 {
     match whole_values(alloc, kinds, bytes) {
         Ok(values) => {
@@ -104,7 +110,7 @@ pub fn decode_partition(
 ) -> Result<ValueList, DecodeError>
     ensures exact { DecodesAll (kinds_of schema.now.partition) bytes.now result }
     ensures refused { let kinds = kinds_of schema.now.partition in
-        Refuses (key_string kinds) (EachFits kinds) bytes.now result }
+        RefusesBytes (key_string kinds) (EachFits kinds) bytes.now result }
 {
     decode_all(alloc, &schema.partition, bytes)
 }
@@ -117,7 +123,7 @@ pub fn decode_clustering(
 ) -> Result<ValueList, DecodeError>
     ensures exact { DecodesAll (kinds_of schema.now.clustering) bytes.now result }
     ensures refused { let kinds = kinds_of schema.now.clustering in
-        Refuses (key_string kinds) (EachFits kinds) bytes.now result }
+        RefusesBytes (key_string kinds) (EachFits kinds) bytes.now result }
 {
     decode_all(alloc, &schema.clustering, bytes)
 }

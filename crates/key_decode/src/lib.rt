@@ -15,4 +15,4 @@ pub use decoding::{DecodeError, decode, decode_clustering, decode_partition};
 pub use numbers::read_sign;
 pub use strings::{is_clustering_string, is_partition_string, split_row};
 pub use texts::{plain_text, read_text};
-pub use values::{SEPARATOR, TERMINATOR, read_value};
+pub use values::read_value;

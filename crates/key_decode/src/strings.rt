@@ -1,36 +1,34 @@
 //! Strings of keys, known and parted without memory.
 ghost use Rattle.std.specs.Prelude.{◌≡◌, ◌≤◌, ◌<◌, ◌+◌, ◌∷◌, [], ◌++◌, Result, List, ℕ, Ok, IfSome, IsNone, IsTrue, MatchOption, MatchResult, IsErr, take, drop, length, ◌↔◌, ◌==◌};
 ghost use Rattle.std.specs.Str.{is_utf8};
-ghost use Rattle.grammar.specs.Reading.{literal};
+ghost use Rattle.grammar.specs.Reading.{given_at};
 ghost use Rattle.key_types.specs.Kinds.{kind_of, kinds_of};
 ghost use Rattle.key_decode.specs.Reading.{seen, text_at, value_at, values_at};
-ghost use Rattle.key_decode.specs.Passing.{AreUtf8Of, IsUtf8Of, Passes};
-ghost use Rattle.key_decode.specs.Strings.{BeginsString, IsStringOf, Parts};
+ghost use Rattle.key_decode.specs.Passing.{AreUtf8Of, IsUtf8Of, Skips};
+ghost use Rattle.key_decode.specs.Strings.{BeginsString, IsStringOf, SplitsString};
+ghost use Rattle.byte_comparable.specs.Strings.{longest_string};
 
 use crate::numbers::{flipped, read_big, read_truth, seen_byte};
 use crate::texts::{Move, Place, plain_text, step};
-use crate::values::{SEPARATOR, TERMINATOR};
+use byte_comparable::{LONGEST_STRING, SEPARATOR, TERMINATOR};
 use grammar::Stop;
 use key_types::{ColType, Schema, TypeList, Value, is_text};
 
-/// The greatest length of a string, in bytes.
-const LONGEST: usize = 1024;
-
 /// Puts a text at the front of `out`, and answers its length and the bytes behind it.
 fn text_into<'a>(
-    turned: bool,
+    complemented: bool,
     bytes: &'a [u8],
-    out: &mut [u8; LONGEST],
+    out: &mut [u8; LONGEST_STRING],
 ) -> Option<(usize, &'a [u8])>
-    requires short { length bytes.now ≤ 1024 }
-    ensures some { IfSome result (λ x. (x.0 ≤ 1024) × (text_at (seen turned bytes.now) ≡ Ok (take x.0 out.new, seen turned x.1.now))) }
-    ensures none { IsNone result → (found : List ℕ × List ℕ) → text_at (seen turned bytes.now) ≡ Ok found → ⊥ }
+    requires short { length bytes.now ≤ longest_string }
+    ensures some { IfSome result (λ x. (x.0 ≤ longest_string) × (text_at (seen complemented bytes.now) ≡ Ok (take x.0 out.new, seen complemented x.1.now))) }
+    ensures none { IsNone result → (found : List ℕ × List ℕ) → text_at (seen complemented bytes.now) ≡ Ok found → ⊥ }
 {
     let mut rest = bytes;
     let mut place = Place::Plain;
     let mut count = 0;
     'bytes: loop {
-        let Ok((next, after)) = step(place, turned, rest) else {
+        let Ok((next, after)) = step(place, complemented, rest) else {
             return None;
         };
         match next {
@@ -47,13 +45,13 @@ fn text_into<'a>(
 }
 
 /// The bytes behind a blob, which is walked byte by byte.
-fn pass_bytes(turned: bool, bytes: &[u8]) -> Option<&[u8]>
-    ensures { Passes (λ blob. Unit {0}) (λ x. seen turned x.now) result (text_at (seen turned bytes.now)) }
+fn pass_bytes(complemented: bool, bytes: &[u8]) -> Option<&[u8]>
+    ensures { Skips (λ blob. Unit {0}) (λ x. seen complemented x.now) result (text_at (seen complemented bytes.now)) }
 {
     let mut rest = bytes;
     let mut place = Place::Plain;
     'bytes: loop {
-        let Ok((next, after)) = step(place, turned, rest) else {
+        let Ok((next, after)) = step(place, complemented, rest) else {
             return None;
         };
         match next {
@@ -65,13 +63,13 @@ fn pass_bytes(turned: bool, bytes: &[u8]) -> Option<&[u8]>
     }
 }
 
-/// The bytes behind a text, which is gathered first, since it may have zero bytes or be turned.
-fn pass_gathered(turned: bool, bytes: &[u8]) -> Option<&[u8]>
-    requires short { length bytes.now ≤ 1024 }
-    ensures { Passes (λ text. IsTrue (is_utf8 text)) (λ x. seen turned x.now) result (text_at (seen turned bytes.now)) }
+/// The bytes behind a text, which is gathered first, since it may have zero bytes or be complemented.
+fn pass_gathered(complemented: bool, bytes: &[u8]) -> Option<&[u8]>
+    requires short { length bytes.now ≤ longest_string }
+    ensures { Skips (λ text. IsTrue (is_utf8 text)) (λ x. seen complemented x.now) result (text_at (seen complemented bytes.now)) }
 {
-    let mut text = [0u8; LONGEST];
-    let (count, rest) = text_into(turned, bytes, &mut text)?;
+    let mut text = [0u8; LONGEST_STRING];
+    let (count, rest) = text_into(complemented, bytes, &mut text)?;
     if !is_text(&text[..count]) {
         return None;
     }
@@ -79,29 +77,29 @@ fn pass_gathered(turned: bool, bytes: &[u8]) -> Option<&[u8]>
 }
 
 /// The bytes behind a blob.
-fn pass_blob(turned: bool, bytes: &[u8]) -> Option<&[u8]>
-    ensures { Passes (λ blob. Unit {0}) (λ x. seen turned x.now) result (text_at (seen turned bytes.now)) }
+fn pass_blob(complemented: bool, bytes: &[u8]) -> Option<&[u8]>
+    ensures { Skips (λ blob. Unit {0}) (λ x. seen complemented x.now) result (text_at (seen complemented bytes.now)) }
 {
-    if turned {
-        return pass_bytes(turned, bytes);
+    if complemented {
+        return pass_bytes(complemented, bytes);
     }
     match plain_text(bytes) {
         Some((_, rest)) => Some(rest),
-        None => pass_bytes(turned, bytes),
+        None => pass_bytes(complemented, bytes),
     }
 }
 
 /// The bytes behind a text.
-fn pass_text(turned: bool, bytes: &[u8]) -> Option<&[u8]>
-    requires short { length bytes.now ≤ 1024 }
-    ensures { Passes (λ text. IsTrue (is_utf8 text)) (λ x. seen turned x.now) result (text_at (seen turned bytes.now)) }
+fn pass_text(complemented: bool, bytes: &[u8]) -> Option<&[u8]>
+    requires short { length bytes.now ≤ longest_string }
+    ensures { Skips (λ text. IsTrue (is_utf8 text)) (λ x. seen complemented x.now) result (text_at (seen complemented bytes.now)) }
 {
-    if turned {
-        return pass_gathered(turned, bytes);
+    if complemented {
+        return pass_gathered(complemented, bytes);
     }
     match plain_text(bytes) {
         Some((text, rest)) => is_text(text).then_some(rest),
-        None => pass_gathered(turned, bytes),
+        None => pass_gathered(complemented, bytes),
     }
 }
 
@@ -113,12 +111,12 @@ fn pass_number(count: usize, bytes: &[u8]) -> Option<&[u8]>
 }
 
 /// The bytes behind this byte.
-fn pass_sign(turned: bool, sign: u8, bytes: &[u8]) -> Option<&[u8]>
-    ensures { let read = literal (sign ∷ []) (seen turned bytes.now) in
-        MatchOption result (IsErr read) (λ rest. read ≡ Ok (tt, seen turned rest.now)) }
+fn pass_sign(complemented: bool, sign: u8, bytes: &[u8]) -> Option<&[u8]>
+    ensures { let read = given_at (sign ∷ []) (seen complemented bytes.now) in
+        MatchOption result (IsErr read) (λ rest. read ≡ Ok (tt, seen complemented rest.now)) }
 {
     let (byte, rest) = bytes.split_first()?;
-    if seen_byte(turned, *byte) == sign {
+    if seen_byte(complemented, *byte) == sign {
         Some(rest)
     } else {
         None
@@ -138,36 +136,36 @@ fn behind(read: Result<(Value, &[u8]), Stop>) -> Option<&[u8]>
 /// The bytes behind a value of the type; `None` where none begins here. Behind an odd count of reversed types the
 /// complements of the bytes are read.
 #[cycle(pass)]
-fn pass_value<'a>(kind: &ColType, turned: bool, bytes: &'a [u8]) -> Option<&'a [u8]>
-    requires short { length bytes.now ≤ 1024 }
-    ensures passes { Passes (IsUtf8Of (kind_of kind.now)) (λ x. seen turned x.now) result (value_at (kind_of kind.now) (seen turned bytes.now)) }
+fn pass_value<'a>(kind: &ColType, complemented: bool, bytes: &'a [u8]) -> Option<&'a [u8]>
+    requires short { length bytes.now ≤ longest_string }
+    ensures passes { Skips (IsUtf8Of (kind_of kind.now)) (λ x. seen complemented x.now) result (value_at (kind_of kind.now) (seen complemented bytes.now)) }
     ensures shorter { IfSome result (λ x. length x.now ≤ length bytes.now) }
 {
     match kind {
         ColType::TinyInt => pass_number(1, bytes),
         ColType::SmallInt => pass_number(2, bytes),
         ColType::Int => pass_number(4, bytes),
-        ColType::BigInt => behind(read_big(turned, bytes)),
-        ColType::Text => pass_text(turned, bytes),
-        ColType::Blob => pass_blob(turned, bytes),
-        ColType::Boolean => behind(read_truth(turned, bytes)),
-        ColType::Tuple(kinds) => pass_values(kinds, turned, bytes),
-        ColType::Reversed(inner) => pass_value(inner, flipped(turned), bytes),
+        ColType::BigInt => behind(read_big(complemented, bytes)),
+        ColType::Text => pass_text(complemented, bytes),
+        ColType::Blob => pass_blob(complemented, bytes),
+        ColType::Boolean => behind(read_truth(complemented, bytes)),
+        ColType::Tuple(kinds) => pass_values(kinds, complemented, bytes),
+        ColType::Reversed(inner) => pass_value(inner, flipped(complemented), bytes),
     }
 }
 
 /// The bytes behind a value of each type, each behind a separator, and behind the terminator.
 #[cycle(pass)]
-fn pass_values<'a>(kinds: &TypeList, turned: bool, bytes: &'a [u8]) -> Option<&'a [u8]>
-    requires short { length bytes.now ≤ 1024 }
-    ensures { Passes (AreUtf8Of (kinds_of kinds.now)) (λ x. seen turned x.now) result (values_at (kinds_of kinds.now) (seen turned bytes.now)) }
+fn pass_values<'a>(kinds: &TypeList, complemented: bool, bytes: &'a [u8]) -> Option<&'a [u8]>
+    requires short { length bytes.now ≤ longest_string }
+    ensures { Skips (AreUtf8Of (kinds_of kinds.now)) (λ x. seen complemented x.now) result (values_at (kinds_of kinds.now) (seen complemented bytes.now)) }
 {
     match kinds {
-        TypeList::End => pass_sign(turned, TERMINATOR, bytes),
+        TypeList::End => pass_sign(complemented, TERMINATOR, bytes),
         TypeList::More(kind, kinds) => {
-            let rest = pass_sign(turned, SEPARATOR, bytes)?;
-            let rest = pass_value(kind, turned, rest)?;
-            pass_values(kinds, turned, rest)
+            let rest = pass_sign(complemented, SEPARATOR, bytes)?;
+            let rest = pass_value(kind, complemented, rest)?;
+            pass_values(kinds, complemented, rest)
         }
     }
 }
@@ -176,7 +174,7 @@ fn pass_values<'a>(kinds: &TypeList, turned: bool, bytes: &'a [u8]) -> Option<&'
 fn is_string(kinds: &TypeList, bytes: &[u8]) -> bool
     ensures { IsTrue result ↔ IsStringOf (kinds_of kinds.now) bytes.now }
 {
-    if bytes.len() > LONGEST {
+    if bytes.len() > LONGEST_STRING {
         return false;
     }
     match pass_values(kinds, false, bytes) {
@@ -203,10 +201,10 @@ pub fn is_clustering_string(schema: &Schema, bytes: &[u8]) -> bool
 fn front_length(kinds: &TypeList, bytes: &[u8]) -> usize
     requires { BeginsString (kinds_of kinds.now) bytes.now }
     ensures string { IsStringOf (kinds_of kinds.now) (take result bytes.now) }
-    ensures only { (string rest : List ℕ) → Parts (kinds_of kinds.now) bytes.now string rest → length string ≡ result }
+    ensures only { (string rest : List ℕ) → SplitsString (kinds_of kinds.now) bytes.now string rest → length string ≡ result }
     ensures inside { result ≤ length bytes.now }
 {
-    let front = &bytes[..bytes.len().min(LONGEST)];
+    let front = &bytes[..bytes.len().min(LONGEST_STRING)];
     match pass_values(kinds, false, front) {
         Some(rest) => front.len() - rest.len(),
         None => 0,
@@ -217,7 +215,7 @@ fn front_length(kinds: &TypeList, bytes: &[u8]) -> usize
 pub fn split_row(schema: &Schema, row: &[u8]) -> usize
     requires { BeginsString (kinds_of schema.now.partition) row.now }
     ensures string { IsStringOf (kinds_of schema.now.partition) (take result row.now) }
-    ensures only { (string rest : List ℕ) → Parts (kinds_of schema.now.partition) row.now string rest → length string ≡ result }
+    ensures only { (string rest : List ℕ) → SplitsString (kinds_of schema.now.partition) row.now string rest → length string ≡ result }
     ensures inside { result ≤ length row.now }
 {
     front_length(&schema.partition, row)

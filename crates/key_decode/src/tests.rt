@@ -1,3 +1,4 @@
+//! Vectors of decoding, of its refusals, and of strings that are parted.
 ghost use Rattle.std.specs.Prelude.{◌≡◌, IfOk};
 ghost use Rattle.key_types.specs.Kinds.{kind_of, kinds_of, more, end, int, big, text, blob, boolean, tuple, reversed};
 

@@ -1,6 +1,7 @@
+//! Texts and blobs from the front of bytes, as they stand or complemented.
 ghost use Rattle.std.specs.Prelude.{◌≡◌, ◌≢◌, ◌<◌, ◌==◌, Ok, length, IfOk, IfErr, IfSome};
 ghost use Rattle.std.specs.List.{position_from};
-ghost use Rattle.grammar.specs.Code.{Gives, Stops};
+ghost use Rattle.grammar.specs.Code.{Gives, StopsAs};
 ghost use Rattle.grammar.specs.declared.stop.Stop.TheVariants.{Memory};
 ghost use Rattle.key_decode.specs.Texts.{at, gone};
 ghost use Rattle.key_decode.specs.declared.texts.Move.TheVariants.{End};
@@ -28,13 +29,13 @@ pub enum Move {
 }
 
 /// One move of the reading.
-pub fn step(place: Place, turned: bool, bytes: &[u8]) -> Result<(Move, &[u8]), Stop>
-    ensures ok { IfOk result (λ x. at place (seen turned bytes.now) ≡ gone x.0 (seen turned x.1.now)) }
-    ensures err { IfErr result (λ e. Stops e (at place (seen turned bytes.now))) }
+pub fn step(place: Place, complemented: bool, bytes: &[u8]) -> Result<(Move, &[u8]), Stop>
+    ensures ok { IfOk result (λ x. at place (seen complemented bytes.now) ≡ gone x.0 (seen complemented x.1.now)) }
+    ensures err { IfErr result (λ e. StopsAs e (at place (seen complemented bytes.now))) }
     ensures shorter { IfOk result (λ x. x.0 ≢ End → length x.1.now < length bytes.now) }
     ensures memory { IfErr result (λ e. ¬ (e ≡ Memory)) }
 {
-    match (place, next_byte(turned, bytes)) {
+    match (place, next_byte(complemented, bytes)) {
         (Place::Plain, Ok((0, rest))) => Ok((Move::Begin, rest)),
         (Place::Plain, Ok((byte, rest))) => Ok((Move::Byte(byte, Place::Plain), rest)),
         (Place::Behind, Ok((0xFE, rest))) => Ok((Move::Byte(0, Place::Behind), rest)),
@@ -65,14 +66,14 @@ pub fn plain_text(bytes: &[u8]) -> Option<(&[u8], &[u8])>
 }
 
 /// A text or a blob, which is gathered byte by byte, and the bytes behind it.
-fn read_bytewise(alloc: Global, turned: bool, bytes: &[u8]) -> Result<(ByteList, &[u8]), Stop>
-    ensures { Gives (λ x. (x.0, seen turned x.1.now)) result (text_at (seen turned bytes.now)) }
+fn read_bytewise(alloc: Global, complemented: bool, bytes: &[u8]) -> Result<(ByteList, &[u8]), Stop>
+    ensures { Gives (λ x. (x.0, seen complemented x.1.now)) result (text_at (seen complemented bytes.now)) }
 {
     let mut out = ByteList::new(alloc);
     let mut rest = bytes;
     let mut place = Place::Plain;
     'bytes: loop {
-        let (next, after) = step(place, turned, rest)?;
+        let (next, after) = step(place, complemented, rest)?;
         match next {
             Move::End => return Ok((out, after)),
             Move::Begin => place = Place::Behind,
@@ -88,14 +89,14 @@ fn read_bytewise(alloc: Global, turned: bool, bytes: &[u8]) -> Result<(ByteList,
 }
 
 /// A text or a blob, and the bytes behind it.
-pub fn read_text(alloc: Global, turned: bool, bytes: &[u8]) -> Result<(ByteList, &[u8]), Stop>
-    ensures { Gives (λ x. (x.0, seen turned x.1.now)) result (text_at (seen turned bytes.now)) }
+pub fn read_text(alloc: Global, complemented: bool, bytes: &[u8]) -> Result<(ByteList, &[u8]), Stop>
+    ensures { Gives (λ x. (x.0, seen complemented x.1.now)) result (text_at (seen complemented bytes.now)) }
 {
-    if turned {
-        return read_bytewise(alloc, turned, bytes);
+    if complemented {
+        return read_bytewise(alloc, complemented, bytes);
     }
     match plain_text(bytes) {
         Some((text, rest)) => Ok((ByteList::from_vec(Vec::from_slice(alloc, text)?), rest)),
-        None => read_bytewise(alloc, turned, bytes),
+        None => read_bytewise(alloc, complemented, bytes),
     }
 }

@@ -1,3 +1,4 @@
+//! Values of every type from the front of bytes, as they stand or complemented: `key_printing` reads by them too.
 ghost use Rattle.std.specs.Prelude.{◌≡◌};
 ghost use Rattle.grammar.specs.Code.{Gives};
 ghost use Rattle.key_types.specs.Kinds.{kind_of, kinds_of, value_of, values_of};
@@ -5,15 +6,10 @@ ghost use Rattle.key_decode.specs.Reading.{seen, value_at, values_at};
 
 use crate::numbers::{flipped, read_big, read_sign, read_signed, read_truth};
 use crate::texts::read_text;
+use byte_comparable::{SEPARATOR, TERMINATOR};
 use grammar::Stop;
 use key_types::{ColType, TypeList, Value, ValueList};
 use std::alloc::Global;
-
-/// The byte before each component.
-pub const SEPARATOR: u8 = 0x40;
-
-/// The byte behind the last component.
-pub const TERMINATOR: u8 = 0x38;
 
 /// A value of the type, whose texts may be any bytes, and the bytes behind it. Behind an odd count of reversed
 /// types the complements of the bytes are read.
@@ -21,26 +17,26 @@ pub const TERMINATOR: u8 = 0x38;
 pub fn read_value<'a>(
     alloc: Global,
     kind: &ColType,
-    turned: bool,
+    complemented: bool,
     bytes: &'a [u8],
 ) -> Result<(Value, &'a [u8]), Stop>
-    ensures { Gives (λ x. (value_of x.0, seen turned x.1.now)) result (value_at (kind_of kind.now) (seen turned bytes.now)) }
+    ensures { Gives (λ x. (value_of x.0, seen complemented x.1.now)) result (value_at (kind_of kind.now) (seen complemented bytes.now)) }
 {
     match kind {
-        ColType::TinyInt => read_signed(turned, 1, 0x80, bytes),
-        ColType::SmallInt => read_signed(turned, 2, 0x8000, bytes),
-        ColType::Int => read_signed(turned, 4, 0x8000_0000, bytes),
-        ColType::BigInt => read_big(turned, bytes),
+        ColType::TinyInt => read_signed(complemented, 1, 0x80, bytes),
+        ColType::SmallInt => read_signed(complemented, 2, 0x8000, bytes),
+        ColType::Int => read_signed(complemented, 4, 0x8000_0000, bytes),
+        ColType::BigInt => read_big(complemented, bytes),
         ColType::Text | ColType::Blob => {
-            let (text, rest) = read_text(alloc, turned, bytes)?;
+            let (text, rest) = read_text(alloc, complemented, bytes)?;
             Ok((Value::Bytes(text), rest))
         }
-        ColType::Boolean => read_truth(turned, bytes),
+        ColType::Boolean => read_truth(complemented, bytes),
         ColType::Tuple(kinds) => {
-            let (values, rest) = read_values(alloc, kinds, turned, bytes)?;
+            let (values, rest) = read_values(alloc, kinds, complemented, bytes)?;
             Ok((Value::Tuple(values), rest))
         }
-        ColType::Reversed(inner) => read_value(alloc, inner, flipped(turned), bytes),
+        ColType::Reversed(inner) => read_value(alloc, inner, flipped(complemented), bytes),
     }
 }
 
@@ -49,20 +45,20 @@ pub fn read_value<'a>(
 pub fn read_values<'a>(
     alloc: Global,
     kinds: &TypeList,
-    turned: bool,
+    complemented: bool,
     bytes: &'a [u8],
 ) -> Result<(ValueList, &'a [u8]), Stop>
-    ensures { Gives (λ x. (values_of x.0, seen turned x.1.now)) result (values_at (kinds_of kinds.now) (seen turned bytes.now)) }
+    ensures { Gives (λ x. (values_of x.0, seen complemented x.1.now)) result (values_at (kinds_of kinds.now) (seen complemented bytes.now)) }
 {
     match kinds {
         TypeList::End => {
-            let rest = read_sign(turned, TERMINATOR, bytes)?;
+            let rest = read_sign(complemented, TERMINATOR, bytes)?;
             Ok((ValueList::End, rest))
         }
         TypeList::More(kind, kinds) => {
-            let rest = read_sign(turned, SEPARATOR, bytes)?;
-            let (value, rest) = read_value(alloc, kind, turned, rest)?;
-            let (values, rest) = read_values(alloc, kinds, turned, rest)?;
+            let rest = read_sign(complemented, SEPARATOR, bytes)?;
+            let (value, rest) = read_value(alloc, kind, complemented, rest)?;
+            let (values, rest) = read_values(alloc, kinds, complemented, rest)?;
             let value = Box::new(alloc, value)?;
             let values = Box::new(alloc, values)?;
             Ok((ValueList::More(value, values), rest))

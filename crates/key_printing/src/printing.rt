@@ -1,35 +1,30 @@
 //! Components in parentheses, from their string.
-ghost use Rattle.std.specs.Prelude.{◌≡◌, ◌++◌, length, take, Ok, OnOk, OnErr, IfSome, MatchResult};
+ghost use Rattle.std.specs.Prelude.{◌≡◌, ◌++◌, length, take, Ok, OnOk, OnErr, IfSome};
+ghost use Rattle.grammar.specs.Code.{GivesOnto};
 ghost use Rattle.grammar.specs.declared.stop.Stop.TheVariants.{Memory};
 ghost use Rattle.key_types.specs.Kinds.{kind_of, kinds_of};
 ghost use Rattle.key_types.specs.Literals.{literal, literals, list_literal};
 ghost use Rattle.key_decode.specs.Reading.{seen, text_at, value_at, values_at};
 ghost use Rattle.key_decode.specs.Strings.{IsStringOf};
 ghost use Rattle.key_text.specs.Written.{further_literals, value_literal};
-ghost use Rattle.key_printing.specs.Printing.{Prints};
 ghost use Rattle.key_printing.specs.Texts.{PutsText};
 
+use byte_comparable::{SEPARATOR, TERMINATOR};
 use grammar::Stop;
-use key_decode::{SEPARATOR, TERMINATOR, plain_text, read_sign, read_text, read_value};
+use key_decode::{plain_text, read_sign, read_text, read_value};
 use key_text::{write_bytes, write_value};
 use key_types::{ByteList, ColType, NoMemory, TypeList, ValueType};
 use std::alloc::Global;
 
-/// Want of memory for a text as a reading stops at it.
-fn wrote(written: Result<(), NoMemory>) -> Result<(), Stop>
-    ensures { MatchResult result (λ _. written ≡ Ok tt) (λ e. e ≡ Memory) }
-{
-    match written {
-        Ok(()) => Ok(()),
-        Err(NoMemory) => Err(Stop::Memory),
-    }
-}
-
 /// A text that stands in the string as it is, and the bytes behind it; `None` where none is seen.
-fn standing_text(turned: bool, bytes: &[u8]) -> Option<(&[u8], &[u8])>
-    ensures { IfSome result (λ x. text_at (seen turned bytes.now) ≡ Ok (x.0.now, seen turned x.1.now)) }
+fn standing_text(complemented: bool, bytes: &[u8]) -> Option<(&[u8], &[u8])>
+    ensures { IfSome result (λ x. text_at (seen complemented bytes.now) ≡ Ok (x.0.now, seen complemented x.1.now)) }
 {
-    if turned { None } else { plain_text(bytes) }
+    if complemented {
+        None
+    } else {
+        plain_text(bytes)
+    }
 }
 
 /// Puts the text or the blob that stands next at the end, and answers the bytes behind it. One that stands as it is
@@ -37,21 +32,22 @@ fn standing_text(turned: bool, bytes: &[u8]) -> Option<(&[u8], &[u8])>
 fn put_bytes<'a>(
     alloc: Global,
     kind: ValueType,
-    turned: bool,
+    complemented: bool,
     bytes: &'a [u8],
     out: &mut ByteList,
 ) -> Result<&'a [u8], Stop>
-    ensures prints { Prints (value_literal kind) (λ x. seen turned x.now) out.old out.new result (text_at (seen turned bytes.now)) }
+    ensures prints { GivesOnto (value_literal kind) out.old out.new (λ value rest. (value, seen complemented rest.now)) result
+        (text_at (seen complemented bytes.now)) }
     ensures kept { take (length out.old) out.new ≡ out.old }
 {
-    match standing_text(turned, bytes) {
+    match standing_text(complemented, bytes) {
         Some((text, rest)) => {
-            wrote(write_bytes(kind, text, out))?;
+            write_bytes(kind, text, out)?;
             Ok(rest)
         }
         None => {
-            let (text, rest) = read_text(alloc, turned, bytes)?;
-            wrote(write_bytes(kind, text.as_slice(), out))?;
+            let (text, rest) = read_text(alloc, complemented, bytes)?;
+            write_bytes(kind, text.as_slice(), out)?;
             Ok(rest)
         }
     }
@@ -61,15 +57,16 @@ fn put_bytes<'a>(
 fn put_scalar<'a>(
     alloc: Global,
     kind: &ColType,
-    turned: bool,
+    complemented: bool,
     bytes: &'a [u8],
     out: &mut ByteList,
 ) -> Result<&'a [u8], Stop>
-    ensures prints { Prints (literal (kind_of kind.now)) (λ x. seen turned x.now) out.old out.new result (value_at (kind_of kind.now) (seen turned bytes.now)) }
+    ensures prints { GivesOnto (literal (kind_of kind.now)) out.old out.new (λ value rest. (value, seen complemented rest.now)) result
+        (value_at (kind_of kind.now) (seen complemented bytes.now)) }
     ensures kept { take (length out.old) out.new ≡ out.old }
 {
-    let (value, rest) = read_value(alloc, kind, turned, bytes)?;
-    wrote(write_value(kind, &value, out))?;
+    let (value, rest) = read_value(alloc, kind, complemented, bytes)?;
+    write_value(kind, &value, out)?;
     Ok(rest)
 }
 
@@ -79,19 +76,20 @@ fn put_scalar<'a>(
 fn put_value<'a>(
     alloc: Global,
     kind: &ColType,
-    turned: bool,
+    complemented: bool,
     bytes: &'a [u8],
     out: &mut ByteList,
 ) -> Result<&'a [u8], Stop>
-    ensures prints { Prints (literal (kind_of kind.now)) (λ x. seen turned x.now) out.old out.new result (value_at (kind_of kind.now) (seen turned bytes.now)) }
+    ensures prints { GivesOnto (literal (kind_of kind.now)) out.old out.new (λ value rest. (value, seen complemented rest.now)) result
+        (value_at (kind_of kind.now) (seen complemented bytes.now)) }
     ensures kept { take (length out.old) out.new ≡ out.old }
 {
     match kind {
-        ColType::Text => put_bytes(alloc, ValueType::Text, turned, bytes, out),
-        ColType::Blob => put_bytes(alloc, ValueType::Blob, turned, bytes, out),
-        ColType::Tuple(kinds) => put_list(alloc, kinds, turned, bytes, out),
-        ColType::Reversed(inner) => put_value(alloc, inner, !turned, bytes, out),
-        _ => put_scalar(alloc, kind, turned, bytes, out),
+        ColType::Text => put_bytes(alloc, ValueType::Text, complemented, bytes, out),
+        ColType::Blob => put_bytes(alloc, ValueType::Blob, complemented, bytes, out),
+        ColType::Tuple(kinds) => put_list(alloc, kinds, complemented, bytes, out),
+        ColType::Reversed(inner) => put_value(alloc, inner, !complemented, bytes, out),
+        _ => put_scalar(alloc, kind, complemented, bytes, out),
     }
 }
 
@@ -100,16 +98,17 @@ fn put_value<'a>(
 fn put_list<'a>(
     alloc: Global,
     kinds: &TypeList,
-    turned: bool,
+    complemented: bool,
     bytes: &'a [u8],
     out: &mut ByteList,
 ) -> Result<&'a [u8], Stop>
-    ensures prints { Prints (list_literal (kinds_of kinds.now)) (λ x. seen turned x.now) out.old out.new result (values_at (kinds_of kinds.now) (seen turned bytes.now)) }
+    ensures prints { GivesOnto (list_literal (kinds_of kinds.now)) out.old out.new (λ value rest. (value, seen complemented rest.now)) result
+        (values_at (kinds_of kinds.now) (seen complemented bytes.now)) }
     ensures kept { take (length out.old) out.new ≡ out.old }
 {
-    wrote(out.push(b'('))?;
-    let rest = put_values(alloc, kinds, turned, bytes, out)?;
-    wrote(out.push(b')'))?;
+    out.push(b'(')?;
+    let rest = put_values(alloc, kinds, complemented, bytes, out)?;
+    out.push(b')')?;
     Ok(rest)
 }
 
@@ -118,19 +117,20 @@ fn put_list<'a>(
 fn put_values<'a>(
     alloc: Global,
     kinds: &TypeList,
-    turned: bool,
+    complemented: bool,
     bytes: &'a [u8],
     out: &mut ByteList,
 ) -> Result<&'a [u8], Stop>
-    ensures prints { Prints (literals (kinds_of kinds.now)) (λ x. seen turned x.now) out.old out.new result (values_at (kinds_of kinds.now) (seen turned bytes.now)) }
+    ensures prints { GivesOnto (literals (kinds_of kinds.now)) out.old out.new (λ value rest. (value, seen complemented rest.now)) result
+        (values_at (kinds_of kinds.now) (seen complemented bytes.now)) }
     ensures kept { take (length out.old) out.new ≡ out.old }
 {
     match kinds {
-        TypeList::End => read_sign(turned, TERMINATOR, bytes),
+        TypeList::End => read_sign(complemented, TERMINATOR, bytes),
         TypeList::More(kind, kinds) => {
-            let rest = read_sign(turned, SEPARATOR, bytes)?;
-            let rest = put_value(alloc, kind, turned, rest, out)?;
-            put_further(alloc, kinds, turned, rest, out)
+            let rest = read_sign(complemented, SEPARATOR, bytes)?;
+            let rest = put_value(alloc, kind, complemented, rest, out)?;
+            put_further(alloc, kinds, complemented, rest, out)
         }
     }
 }
@@ -140,18 +140,19 @@ fn put_values<'a>(
 fn put_further<'a>(
     alloc: Global,
     kinds: &TypeList,
-    turned: bool,
+    complemented: bool,
     bytes: &'a [u8],
     out: &mut ByteList,
 ) -> Result<&'a [u8], Stop>
-    ensures prints { Prints (further_literals (kinds_of kinds.now)) (λ x. seen turned x.now) out.old out.new result (values_at (kinds_of kinds.now) (seen turned bytes.now)) }
+    ensures prints { GivesOnto (further_literals (kinds_of kinds.now)) out.old out.new (λ value rest. (value, seen complemented rest.now)) result
+        (values_at (kinds_of kinds.now) (seen complemented bytes.now)) }
     ensures kept { take (length out.old) out.new ≡ out.old }
 {
     match kinds {
-        TypeList::End => read_sign(turned, TERMINATOR, bytes),
+        TypeList::End => read_sign(complemented, TERMINATOR, bytes),
         TypeList::More(_, _) => {
-            wrote(out.extend(b", "))?;
-            put_values(alloc, kinds, turned, bytes, out)
+            out.extend(b", ")?;
+            put_values(alloc, kinds, complemented, bytes, out)
         }
     }
 }

@@ -1,3 +1,4 @@
+//! Vectors of strings and their lists.
 ghost use Rattle.std.specs.Prelude.{◌≡◌, IfOk};
 ghost use Rattle.key_types.specs.Kinds.{kind_of, kinds_of, more};
 

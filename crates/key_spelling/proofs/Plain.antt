@@ -4,7 +4,7 @@ use Rattle.std.specs.Prelude.{ℤ, pos, negsuc, IsTrue}
 use Rattle.std.proofs.lemmas.Bool.Decides.{nat_tests}
 use Rattle.grammar.specs.Reading.{mapped}
 use Rattle.key_types.specs.Kinds.{Kind, tiny, small, int, big, text, blob, boolean, tuple, reversed, Val, number, truth, Fits, within}
-use Rattle.key_text.specs.Reading.{number_at, truth_at, closed}
+use Rattle.key_text.specs.Reading.{number_at, truth_at, closed_read}
 use Rattle.key_text.specs.Marking.{Marked, kept, marked_number, marked_at}
 use Rattle.key_text.proofs.Plain.{signed}
 use Rattle.key_text.proofs.Tracked.{kept_by, kept_within}
@@ -39,10 +39,10 @@ fits_as t m v fit (z, e, h) = subst (Fits t) (sym e) (fit z h)
 
 -- what is read of a number's or a boolean's type fits it
 pub plain_fits : (t : Kind) (mark now : Option ℕ) (bs rest : List ℕ) (v : Val) → IsPlain t → marked_at t mark bs ≡ Ok ((v, now), rest) → Fits t v
-plain_fits tiny mark now bs rest v is h = fits_as tiny 127 v (λ z f. f) (number_fits 127 (closed number_at bs) mark now (length bs) rest v h)
-plain_fits small mark now bs rest v is h = fits_as small 32767 v (λ z f. f) (number_fits 32767 (closed number_at bs) mark now (length bs) rest v h)
-plain_fits int mark now bs rest v is h = fits_as int 2147483647 v (λ z f. f) (number_fits 2147483647 (closed number_at bs) mark now (length bs) rest v h)
-plain_fits big mark now bs rest v is h = fits_as big 9223372036854775807 v (λ z f. f) (number_fits 9223372036854775807 (closed number_at bs) mark now (length bs) rest v h)
+plain_fits tiny mark now bs rest v is h = fits_as tiny 127 v (λ z f. f) (number_fits 127 (closed_read number_at bs) mark now (length bs) rest v h)
+plain_fits small mark now bs rest v is h = fits_as small 32767 v (λ z f. f) (number_fits 32767 (closed_read number_at bs) mark now (length bs) rest v h)
+plain_fits int mark now bs rest v is h = fits_as int 2147483647 v (λ z f. f) (number_fits 2147483647 (closed_read number_at bs) mark now (length bs) rest v h)
+plain_fits big mark now bs rest v is h = fits_as big 9223372036854775807 v (λ z f. f) (number_fits 9223372036854775807 (closed_read number_at bs) mark now (length bs) rest v h)
 plain_fits text mark now bs rest v is h = absurd is
 plain_fits blob mark now bs rest v is h = absurd is
 plain_fits boolean mark now bs rest v is h = truth_fits (truth_at bs) mark now rest v h

@@ -1,3 +1,4 @@
+//! Vectors of lists and their strings.
 use super::*;
 use key_types::{ByteList, ColType, TypeList};
 use std::alloc::Global;
@@ -21,11 +22,11 @@ fn assert_spelled(
 ) -> Result<(), Fail> {
     let mut out = ByteList::new(alloc);
     out.push(7)?;
-    let mut outside = None;
-    let rest = spell_list(alloc, &kinds(alloc)?, &mut outside, text, &mut out)?;
+    let mut out_of_range = None;
+    let rest = spell_list(alloc, &kinds(alloc)?, &mut out_of_range, text, &mut out)?;
     assert_eq!(rt; rest, b"= ".as_slice());
     assert_eq!(rt; out.as_slice(), string);
-    assert_eq!(rt; outside, mark);
+    assert_eq!(rt; out_of_range, mark);
     Ok(())
 }
 

@@ -52,8 +52,8 @@ module _ {A : Type 0} (Is : A → List ℕ → Type 0) (P : List ℕ → ℕ →
   read x h = let p = ok_by (marked None behind) (x, None) (tracks None behind) h in read_by p.0 x p.1 p.2
 
   -- with one, the first number that passes its type begins there
-  pub outside : (x : A) (left : ℕ) → WholeMarked ≡ Ok (x, Some left) → (left ≤ length text) × TextPasses P text (length text - left)
-  outside x left h =
+  pub out_of_range : (x : A) (left : ℕ) → WholeMarked ≡ Ok (x, Some left) → (left ≤ length text) × TextPasses P text (length text - left)
+  out_of_range x left h =
       let p = ok_by (marked None behind) (x, Some left) (tracks None behind) h in
       let m = p.2 in
       let l = long in

@@ -9,9 +9,9 @@ use Rattle.key_types.specs.Literals.{literal, list_literal}
 use Rattle.key_text.specs.declared.reading.LiteralError.{LiteralError}
 use Rattle.key_text.specs.declared.reading.LiteralError.TheVariants.{BadToken, OutOfRange, NoMemory}
 use Rattle.key_text.specs.Grammar.{IsLiteral, AreLiterals, AreFurther, IsList, IsText}
-use Rattle.key_text.specs.Outside.{Passes, AnyPasses, FurtherPasses, ItemPasses, ListPasses, TextPasses}
-use Rattle.key_text.specs.Answers.{Reads, ReadsList}
-use Rattle.key_text.specs.Laws.{IsRead}
+use Rattle.key_text.specs.Outside.{ValuePasses, AnyPasses, FurtherPasses, ItemPasses, ListPasses, TextPasses}
+use Rattle.key_text.specs.Answers.{ReadsValue, ReadsList}
+use Rattle.key_text.specs.Laws.{IsLiteralRead}
 use Rattle.key_text.proofs.Plain.{value_at, list_at, Follow}
 use Rattle.key_text.proofs.Lists.{value_text_exact, list_text_exact}
 use Rattle.key_text.proofs.Decimals.{value_written, list_written}
@@ -47,7 +47,7 @@ comma_misfits t ts left rest bs sign e (none, is, n) = absurd is
 comma_misfits t ts left rest bs sign e (and v vs, (first, behind, lit, further, f), n) = (and v vs, (left, first, behind, sign, lit, further, e ∙ ap (λ l. left ++ l) f), n)
 
 mutual
-  misfit : (t : Kind) (bs : List ℕ) (at : ℕ) → Passes t bs at → Misfit (IsLiteral t) (Fits t) bs
+  misfit : (t : Kind) (bs : List ℕ) (at : ℕ) → ValuePasses t bs at → Misfit (IsLiteral t) (Fits t) bs
   misfit tiny bs at (z, is, n, e) = (number z, is, n)
   misfit small bs at (z, is, n, e) = (number z, is, n)
   misfit int bs at (z, is, n, e) = (number z, is, n)
@@ -62,18 +62,18 @@ mutual
 
   misfits : (ts : Kinds) (bs : List ℕ) (at : ℕ) → AnyPasses ts bs at → Misfits (AreLiterals ts) (EachFits ts) bs
   misfits end bs at p = absurd p
-  misfits (more t ts) bs at p = item_misfits t ts (Passes t) (FurtherPasses ts) (misfit t) (further_misfits ts) bs at p
+  misfits (more t ts) bs at p = item_misfits t ts (ValuePasses t) (FurtherPasses ts) (misfit t) (further_misfits ts) bs at p
 
   further_misfits : (ts : Kinds) (bs : List ℕ) (at : ℕ) → FurtherPasses ts bs at → Misfits (AreFurther ts) (EachFits ts) bs
   further_misfits end bs at p = absurd p
-  further_misfits (more t ts) bs at (left, rest, k, sign, p, e, same) = comma_misfits t ts left rest bs sign e (item_misfits t ts (Passes t) (FurtherPasses ts) (misfit t) (further_misfits ts) rest k p)
+  further_misfits (more t ts) bs at (left, rest, k, sign, p, e, same) = comma_misfits t ts left rest bs sign e (item_misfits t ts (ValuePasses t) (FurtherPasses ts) (misfit t) (further_misfits ts) rest k p)
 
 list_misfits : (ts : Kinds) (bs : List ℕ) (at : ℕ) → ListPasses ts bs at → Misfits (IsList ts) (EachFits ts) bs
 list_misfits ts bs at (left, rest, k, sign, (inside, right, p, last, f), e, same) =
     let m = misfits ts inside k p in
     (m.0, (left, inside, right, sign, m.1, last, e ∙ ap (λ l. left ++ l) f), m.2)
 
-pub value_outside : (t : Kind) (v : Val) (bs : List ℕ) (at : ℕ) → TextPasses (Passes t) bs at → IsText (IsLiteral t) v bs → Fits t v → ⊥
+pub value_outside : (t : Kind) (v : Val) (bs : List ℕ) (at : ℕ) → TextPasses (ValuePasses t) bs at → IsText (IsLiteral t) v bs → Fits t v → ⊥
 value_outside t v bs at (n, rest, k, e, p, same) is h =
     let m = misfit t rest k p in
     m.2 (subst (Fits t) (value_one t v m.0 bs is (n, rest, e, m.1)) h)
@@ -91,13 +91,13 @@ value_text t v h = (0, literal t v, refl, value_written t v h)
 pub list_text : (ts : Kinds) (vs : Vals) → EachFits ts vs → IsText (IsList ts) vs (list_literal ts vs)
 list_text ts vs h = (0, list_literal ts vs, refl, list_written ts vs h)
 
-pub value_back : (t : Kind) (v : Val) (result : Result Value LiteralError) → Fits t v → Reads t (literal t v) result → IsRead value_of v result
+pub value_back : (t : Kind) (v : Val) (result : Result Value LiteralError) → Fits t v → ReadsValue t (literal t v) result → IsLiteralRead value_of v result
 value_back t v (Ok x) h p = value_one t (value_of x) v (literal t v) p.0 (value_text t v h)
 value_back t v (Err (BadToken at)) h p = p.0 v (value_text t v h)
 value_back t v (Err (OutOfRange at)) h p = value_outside t v (literal t v) at p (value_text t v h) h
 value_back t v (Err NoMemory) h p = tt
 
-pub list_back : (ts : Kinds) (vs : Vals) (result : Result ValueList LiteralError) → EachFits ts vs → ReadsList ts (list_literal ts vs) result → IsRead values_of vs result
+pub list_back : (ts : Kinds) (vs : Vals) (result : Result ValueList LiteralError) → EachFits ts vs → ReadsList ts (list_literal ts vs) result → IsLiteralRead values_of vs result
 list_back ts vs (Ok x) h p = list_one ts (values_of x) vs (list_literal ts vs) p.0 (list_text ts vs h)
 list_back ts vs (Err (BadToken at)) h p = p.0 vs (list_text ts vs h)
 list_back ts vs (Err (OutOfRange at)) h p = list_outside ts vs (list_literal ts vs) at p (list_text ts vs h) h

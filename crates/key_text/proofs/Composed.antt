@@ -14,8 +14,8 @@ use Rattle.grammar.proofs.Signs.{begins_as, empty_begins, HasText, end_text}
 use Rattle.key_types.specs.Literals.{quotes_doubled, boolean_literal}
 use Rattle.key_types.specs.Kinds.{Kind, tiny, small, int, big, text, blob, boolean, tuple, reversed, Val, number, bytes, truth, values}
 use Rattle.key_text.specs.Tokens.{is_digit, is_nonzero, is_hex, IsNumber}
-use Rattle.key_text.specs.Grammar.{IsToken, IsSpaced, IsLiteral}
-use Rattle.key_text.specs.Reading.{number_at, text_at, blob_at, truth_word_at, truth_at, closing_at, closed, no_end, no_close}
+use Rattle.key_text.specs.Grammar.{IsValueToken, IsSpaced, IsLiteral}
+use Rattle.key_text.specs.Reading.{number_at, quoted_text_at, blob_at, truth_word_at, truth_at, closing_at, closed_read, no_end, no_close}
 use Rattle.key_text.proofs.Numbers.{NoDigit, IsNegative, IsPlain, number_exact, number_text}
 use Rattle.key_text.proofs.Quoted.{NoQuote, NoHex, IsText, IsHexed, text_exact, text_text, blob_exact, blob_text}
 use Rattle.key_text.proofs.Plain.{signed, number_value}
@@ -90,8 +90,8 @@ module _ {A : Type 0} (r : Read A) (Is : A → List ℕ → Type 0) (P : ℕ →
   closed_from : (a : A) (bs : List ℕ) → IsSpaced (Is a) bs → IsClosed a bs
   closed_from a bs (token, n, is, e) = (a, token, replicate n 32, is, (tt, (tt, replicate n 32, [], (n, refl), (refl, refl), sym (append-nil (replicate n 32))), refl), e)
 
-  pub closed_exact : Exact (closed r) (λ a. IsSpaced (Is a)) After
-  closed_exact = exact_as (closed r) IsClosed (λ a. IsSpaced (Is a)) After
+  pub closed_exact : Exact (closed_read r) (λ a. IsSpaced (Is a)) After
+  closed_exact = exact_as (closed_read r) IsClosed (λ a. IsSpaced (Is a)) After
       (bind_exact r (λ v. map_read (λ _. v) closing_at) Is (λ v. Mapped (λ _. v) IsClosing) (λ _. P) After one
       (λ v. map_exact (λ _. v) closing_at IsClosing After After closing_exact (λ u c h. h) (λ u c h. h))
       (λ v. (v, [], (tt, (tt, [], [], (0, refl), (refl, refl), refl), refl), tt))
@@ -128,9 +128,9 @@ module _ (Lit : Val → List ℕ → Type 0) (to : (z : ℤ) (bs : List ℕ) →
       let q = number_from p.0 p.2.0 p.2.2 in
       (q.0, (p.2.0, p.2.1, q.1, p.2.3), p.1 ∙ ap number q.2)
 
-  pub number_kind_exact : Exact (map_read number_value (closed number_at)) Lit After
-  number_kind_exact = exact_as (map_read number_value (closed number_at)) IsRead Lit After
-      (map_exact number_value (closed number_at) (λ x. IsSpaced (Either IsNegative IsPlain x)) After After (closed_exact number_at (Either IsNegative IsPlain) NoDigit number_exact number_text refl end_digit) (λ x c h. h) (λ x c h. h))
+  pub number_kind_exact : Exact (map_read number_value (closed_read number_at)) Lit After
+  number_kind_exact = exact_as (map_read number_value (closed_read number_at)) IsRead Lit After
+      (map_exact number_value (closed_read number_at) (λ x. IsSpaced (Either IsNegative IsPlain x)) After After (closed_exact number_at (Either IsNegative IsPlain) NoDigit number_exact number_text refl end_digit) (λ x c h. h) (λ x c h. h))
       read_to read_from
 
 abbrev NumberOf : Val → List ℕ → Type 0
@@ -174,9 +174,9 @@ text_from (bytes b) bs (token, n, is, e) = (b, (token, n, (tt, codes "'", quotes
 text_from (truth b) bs h = absurd h.2
 text_from (values vs) bs h = absurd h.2
 
-pub text_value_exact : Exact (map_read bytes (closed text_at)) (IsLiteral text) After
-text_value_exact = exact_as (map_read bytes (closed text_at)) TextRead (IsLiteral text) After
-    (map_exact bytes (closed text_at) (λ b. IsSpaced (IsText b)) After After (closed_exact text_at IsText NoQuote text_exact text_text refl end_quote) (λ x c h. h) (λ x c h. h)) text_to text_from
+pub text_value_exact : Exact (map_read bytes (closed_read quoted_text_at)) (IsLiteral text) After
+text_value_exact = exact_as (map_read bytes (closed_read quoted_text_at)) TextRead (IsLiteral text) After
+    (map_exact bytes (closed_read quoted_text_at) (λ b. IsSpaced (IsText b)) After After (closed_exact quoted_text_at IsText NoQuote text_exact text_text refl end_quote) (λ x c h. h) (λ x c h. h)) text_to text_from
 
 -- blobs
 abbrev BlobRead : Val → List ℕ → Type 0
@@ -192,9 +192,9 @@ blob_from (bytes b) bs (token, n, is, e) = (b, (token, n, (tt, codes "0x", is.0,
 blob_from (truth b) bs h = absurd h.2
 blob_from (values vs) bs h = absurd h.2
 
-pub blob_value_exact : Exact (map_read bytes (closed blob_at)) (IsLiteral blob) After
-blob_value_exact = exact_as (map_read bytes (closed blob_at)) BlobRead (IsLiteral blob) After
-    (map_exact bytes (closed blob_at) (λ b. IsSpaced (IsHexed b)) After After (closed_exact blob_at IsHexed NoHex blob_exact blob_text refl end_hex) (λ x c h. h) (λ x c h. h)) blob_to blob_from
+pub blob_value_exact : Exact (map_read bytes (closed_read blob_at)) (IsLiteral blob) After
+blob_value_exact = exact_as (map_read bytes (closed_read blob_at)) BlobRead (IsLiteral blob) After
+    (map_exact bytes (closed_read blob_at) (λ b. IsSpaced (IsHexed b)) After After (closed_exact blob_at IsHexed NoHex blob_exact blob_text refl end_hex) (λ x c h. h) (λ x c h. h)) blob_to blob_from
 
 -- booleans
 abbrev true_word : List ℕ × Bool
@@ -265,7 +265,7 @@ Head bs = (b : ℕ) × (cs : List ℕ) × (bs ≡ b ∷ cs) × NoSpace b
 pub spaced_head : (token bs : List ℕ) (n : ℕ) → bs ≡ token ++ replicate n 32 → Head token → Head bs
 spaced_head token bs n e h = (h.0, h.1 ++ replicate n 32, e ∙ ap (λ l. l ++ replicate n 32) h.2, h.3)
 
-pub token_head : (t : Kind) (v : Val) (token : List ℕ) → IsToken t v token → Head token
+pub token_head : (t : Kind) (v : Val) (token : List ℕ) → IsValueToken t v token → Head token
 token_head tiny (number z) token is = number_head z token is
 token_head small (number z) token is = number_head z token is
 token_head int (number z) token is = number_head z token is

@@ -2,8 +2,9 @@
 use Rattle.std.proofs.Common.{◌≡◌, ℕ, ◌+◌, ◌-◌, ◌*◌, Bool, true, false, cond, List, [], ◌∷◌, ◌++◌, length, Result, Ok, Err, refl, sym, ◌∙◌, ap, arith, subst, add-one, inl, inr}
 use Rattle.std.specs.Prelude.{⊤, codes}
 use Rattle.std.proofs.lemmas.Bool.Decides.{nat_tests}
-use Rattle.grammar.specs.Exact.{Exact, StopsAt, Begins, AreBytes}
-use Rattle.grammar.specs.Reading.{literal, IsLiteral, then_read, Then, map_read, Mapped, ends, IsEnd, Either}
+use Rattle.grammar.specs.Exact.{Exact, StopsAt, Begins}
+use Rattle.key_types.specs.Kinds.{AreBytes}
+use Rattle.grammar.specs.Reading.{given_at, IsGiven, then_read, Then, map_read, Mapped, ends, IsEnd, Either}
 use Rattle.grammar.proofs.Octets.{are_bytes}
 use Rattle.grammar.proofs.Bind.{bind_exact}
 use Rattle.grammar.proofs.First.{first_exact}
@@ -12,6 +13,7 @@ use Rattle.grammar.proofs.Tokens.{literal_exact, ends_exact, any_rest}
 use Rattle.grammar.proofs.Signs.{Heads, HasText, end_text, map_text}
 use Rattle.key_text.specs.Tokens.{is_digit, is_nonzero, more_digits, AreDigits, IsPositive}
 use Rattle.key_text.specs.Reading.{digits_at, positive_at, is_zero, zero_at, magnitude_at, is_minus, number_at}
+use Rattle.grammar.proofs.Front.{stops_first, stops_empty}
 
 abbrev pub NoDigit : ℕ → Type 0
 NoDigit b = is_digit b ≡ false
@@ -91,24 +93,10 @@ positive_stops_by : (t : Bool) (b : ℕ) (bs : List ℕ) (left : ℕ) → is_non
 positive_stops_by true b bs left e h = absurd (digits_never (b - 48) bs left h)
 positive_stops_by false b bs left e h =
     let k : left ≡ length bs + 1 = cc in
-    record {
-      front = [];
-      rest = b ∷ bs;
-      parts = refl;
-      count = k ∙ add-one (length bs);
-      goes_on = (one_text.1, one_text.0, one_text.2, one_text.3);
-      no_further = λ d ds is xs. let same : b ≡ d = cc in subst (λ (x : ℕ). positive_at (x ∷ xs) ≡ Err (length (x ∷ xs))) same (rw (e, add-one) refl);
-    }
+    stops_first positive_at _ b bs left (k ∙ add-one (length bs)) (one_text.1, one_text.0, one_text.2, one_text.3) (λ xs. (rw (e, add-one) refl))
 
 positive_stops : (text : List ℕ) (left : ℕ) → positive_at text ≡ Err left → StopsAt positive_at IsPositive text left
-positive_stops [] left h = record {
-  front = [];
-  rest = [];
-  parts = refl;
-  count = (let e : left ≡ 0 = cc in e);
-  goes_on = (one_text.1, one_text.0, one_text.2, one_text.3);
-  no_further = λ d ds is xs. cc;
-}
+positive_stops [] left h = stops_empty _ _ left (let e : left ≡ 0 = cc in e) (one_text.1, one_text.0, one_text.2, one_text.3)
 positive_stops (b ∷ bs) left h = positive_stops_by (is_nonzero b) b bs left refl h
 
 positive_exact : Exact positive_at IsPositive (λ _. NoDigit)
@@ -117,10 +105,10 @@ positive_exact = record { found = positive_found; all = positive_all; next = pos
 -- ---- numbers
 
 abbrev pub IsZero : ℕ → List ℕ → Type 0
-IsZero = Then (IsLiteral (codes "0")) (λ _. IsEnd 0)
+IsZero = Then (IsGiven (codes "0")) (λ _. IsEnd 0)
 
 zero_exact : Exact zero_at IsZero (λ _. NoDigit)
-zero_exact = bind_exact (literal (codes "0")) (λ _. ends is_digit 0) (IsLiteral (codes "0")) (λ _. IsEnd 0) (λ _ _. ⊤) (λ _. NoDigit) (literal_exact (codes "0") (are_bytes (codes "0") refl)) (λ _. ends_exact is_digit 0) (λ _. end_text 0)
+zero_exact = bind_exact (given_at (codes "0")) (λ _. ends is_digit 0) (IsGiven (codes "0")) (λ _. IsEnd 0) (λ _ _. ⊤) (λ _. NoDigit) (literal_exact (codes "0") (are_bytes (codes "0") refl)) (λ _. ends_exact is_digit 0) (λ _. end_text 0)
     (λ a b text rest is h. any_rest (text ++ rest))
 
 zero_text : HasText IsZero
@@ -153,7 +141,7 @@ abbrev signed : Bool → ℕ → Bool × ℕ
 signed minus n = (minus, n)
 
 abbrev pub IsNegative : Bool × ℕ → List ℕ → Type 0
-IsNegative = Then (IsLiteral (codes "-")) (λ _. Mapped (signed true) IsPositive)
+IsNegative = Then (IsGiven (codes "-")) (λ _. Mapped (signed true) IsPositive)
 
 abbrev pub IsPlain : Bool × ℕ → List ℕ → Type 0
 IsPlain = Mapped (signed false) IsMagnitude
@@ -161,8 +149,8 @@ IsPlain = Mapped (signed false) IsMagnitude
 minus : AreBytes (codes "-")
 minus = are_bytes (codes "-") refl
 
-negative_exact : Exact (then_read (literal (codes "-")) (λ _. map_read (signed true) positive_at)) IsNegative (λ _. NoDigit)
-negative_exact = bind_exact (literal (codes "-")) (λ _. map_read (signed true) positive_at) (IsLiteral (codes "-")) (λ _. Mapped (signed true) IsPositive) (λ _ _. ⊤) (λ _. NoDigit) (literal_exact (codes "-") minus)
+negative_exact : Exact (then_read (given_at (codes "-")) (λ _. map_read (signed true) positive_at)) IsNegative (λ _. NoDigit)
+negative_exact = bind_exact (given_at (codes "-")) (λ _. map_read (signed true) positive_at) (IsGiven (codes "-")) (λ _. Mapped (signed true) IsPositive) (λ _ _. ⊤) (λ _. NoDigit) (literal_exact (codes "-") minus)
     (λ _. map_exact (signed true) positive_at IsPositive (λ _. NoDigit) (λ _. NoDigit) positive_exact (λ n c h. h) (λ n c h. h)) (λ _. map_text (signed true) IsPositive one_text)
     (λ a b text rest is h. any_rest (text ++ rest))
 
@@ -173,7 +161,7 @@ negative_text : HasText IsNegative
 negative_text = ((true, 1), codes "-1", (tt, codes "-", codes "1", refl, (1, one_text.2, refl), refl), are_bytes (codes "-1") refl)
 
 pub number_exact : Exact number_at (Either IsNegative IsPlain) (λ _. NoDigit)
-number_exact = first_exact is_minus (then_read (literal (codes "-")) (λ _. map_read (signed true) positive_at)) (map_read (signed false) magnitude_at) IsNegative IsPlain (λ _. NoDigit) negative_exact plain_exact
+number_exact = first_exact is_minus (then_read (given_at (codes "-")) (λ _. map_read (signed true) positive_at)) (map_read (signed false) magnitude_at) IsNegative IsPlain (λ _. NoDigit) negative_exact plain_exact
     (λ a text is. (45, is.2, is.5 ∙ ap (λ l. l ++ is.2) is.3, refl)) (λ a text is. magnitude_heads is.0 text is.1) (negative_text.1, negative_text.0, negative_text.2, negative_text.3)
 
 pub number_text : HasText (Either IsNegative IsPlain)

@@ -4,7 +4,7 @@ use Rattle.std.specs.Prelude.{ℤ, pos, neg_ℤ}
 use Rattle.grammar.specs.Exact.{Read}
 use Rattle.grammar.specs.Reading.{then_read, map_read, ends, sign_at}
 use Rattle.key_types.specs.Kinds.{Kind, tiny, small, int, big, text, blob, boolean, tuple, reversed, Kinds, end, more, Val, number, bytes, truth, values, Vals, none, and}
-use Rattle.key_text.specs.Reading.{number_at, text_at, blob_at, truth_at, closed, no_end, no_close}
+use Rattle.key_text.specs.Reading.{number_at, quoted_text_at, blob_at, truth_at, closed_read, no_end, no_close}
 
 abbrev pub signed : Bool × ℕ → ℤ
 signed (true, n) = neg_ℤ (pos n)
@@ -15,12 +15,12 @@ number_value x = number (signed x)
 
 abbrev mutual
   pub value_at : Kind → Read Val
-  value_at tiny = map_read number_value (closed number_at)
-  value_at small = map_read number_value (closed number_at)
-  value_at int = map_read number_value (closed number_at)
-  value_at big = map_read number_value (closed number_at)
-  value_at text = map_read bytes (closed text_at)
-  value_at blob = map_read bytes (closed blob_at)
+  value_at tiny = map_read number_value (closed_read number_at)
+  value_at small = map_read number_value (closed_read number_at)
+  value_at int = map_read number_value (closed_read number_at)
+  value_at big = map_read number_value (closed_read number_at)
+  value_at text = map_read bytes (closed_read quoted_text_at)
+  value_at blob = map_read bytes (closed_read blob_at)
   value_at boolean = map_read truth truth_at
   value_at (tuple ts) = then_read (sign_at 40) (λ _. then_read (all_at ts) (λ vs. map_read (λ _. values vs) (sign_at 41)))
   value_at (reversed t) = value_at t

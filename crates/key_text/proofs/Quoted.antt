@@ -4,14 +4,15 @@ use Rattle.std.specs.Prelude.{⊤, codes}
 use Rattle.std.proofs.lemmas.Bool.Decides.{nat_tests}
 use Rattle.std.proofs.lemmas.List.{append-nil}
 use Rattle.key_types.specs.Literals.{quotes_doubled}
-use Rattle.grammar.specs.Exact.{Exact, StopsAt, Begins, AreBytes}
-use Rattle.grammar.specs.Reading.{literal, IsLiteral, Then}
+use Rattle.grammar.specs.Exact.{Exact, StopsAt, Begins}
+use Rattle.key_types.specs.Kinds.{AreBytes}
+use Rattle.grammar.specs.Reading.{given_at, IsGiven, Then, onto}
 use Rattle.grammar.proofs.Octets.{are_bytes}
 use Rattle.grammar.proofs.Bind.{bind_exact}
 use Rattle.grammar.proofs.Tokens.{literal_exact, any_rest}
 use Rattle.grammar.proofs.Signs.{HasText}
 use Rattle.key_text.specs.Tokens.{is_hex, hex_value, AreHex}
-use Rattle.key_text.specs.Reading.{onto, quoted_at, behind_quote, text_at, hex_at, low_at, blob_at}
+use Rattle.key_text.specs.Reading.{quoted_at, behind_quote, quoted_text_at, hex_at, low_at, blob_at}
 
 same_byte : (b c : ℕ) → (b == c) ≡ true → b ≡ c
 same_byte b c e = grind (arith, nat_tests)
@@ -165,10 +166,10 @@ quoted_exact = record {
 }
 
 abbrev pub IsText : List ℕ → List ℕ → Type 0
-IsText = Then (IsLiteral (codes "'")) (λ _. IsQuoted)
+IsText = Then (IsGiven (codes "'")) (λ _. IsQuoted)
 
-pub text_exact : Exact text_at IsText (λ _. NoQuote)
-text_exact = bind_exact (literal (codes "'")) (λ _. quoted_at) (IsLiteral (codes "'")) (λ _. IsQuoted) (λ _ _. ⊤) (λ _. NoQuote) (literal_exact (codes "'") quote_bytes) (λ _. quoted_exact) (λ _. ([], 39 ∷ [], refl, quote_bytes))
+pub text_exact : Exact quoted_text_at IsText (λ _. NoQuote)
+text_exact = bind_exact (given_at (codes "'")) (λ _. quoted_at) (IsGiven (codes "'")) (λ _. IsQuoted) (λ _ _. ⊤) (λ _. NoQuote) (literal_exact (codes "'") quote_bytes) (λ _. quoted_exact) (λ _. ([], 39 ∷ [], refl, quote_bytes))
     (λ a v text rest is h. any_rest (text ++ rest))
 
 pub text_text : HasText IsText
@@ -318,10 +319,10 @@ hex_exact = record {
 }
 
 abbrev pub IsHexed : List ℕ → List ℕ → Type 0
-IsHexed = Then (IsLiteral (codes "0x")) (λ _. AreHex)
+IsHexed = Then (IsGiven (codes "0x")) (λ _. AreHex)
 
 pub blob_exact : Exact blob_at IsHexed (λ _. NoHex)
-blob_exact = bind_exact (literal (codes "0x")) (λ _. hex_at) (IsLiteral (codes "0x")) (λ _. AreHex) (λ _ _. ⊤) (λ _. NoHex) (literal_exact (codes "0x") (are_bytes (codes "0x") refl)) (λ _. hex_exact) (λ _. ([], [], refl, tt))
+blob_exact = bind_exact (given_at (codes "0x")) (λ _. hex_at) (IsGiven (codes "0x")) (λ _. AreHex) (λ _ _. ⊤) (λ _. NoHex) (literal_exact (codes "0x") (are_bytes (codes "0x") refl)) (λ _. hex_exact) (λ _. ([], [], refl, tt))
     (λ a v text rest is h. any_rest (text ++ rest))
 
 pub blob_text : HasText IsHexed

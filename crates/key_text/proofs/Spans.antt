@@ -2,13 +2,14 @@
 use Rattle.std.proofs.Common.{◌≡◌, ℕ, ◌==◌, ◌+◌, ◌<◌, Bool, true, false, cond, None, Some, List, [], ◌∷◌, ◌++◌, length, take, drop, Result, Ok, Err, refl, sym, arith, add-one, suc}
 use Rattle.std.specs.List.{position_from}
 use Rattle.key_types.specs.Literals.{quotes_doubled}
-use Rattle.key_text.specs.Reading.{onto, quoted_at, behind_quote, behind}
+use Rattle.key_text.specs.Reading.{quoted_at, behind_quote}
+use Rattle.grammar.specs.Reading.{onto, with_front}
 
-behind_nothing : (read : Result (List ℕ × List ℕ) ℕ) → behind [] read ≡ read
+behind_nothing : (read : Result (List ℕ × List ℕ) ℕ) → with_front [] read ≡ read
 behind_nothing (Ok x) = refl
 behind_nothing (Err e) = refl
 
-onto_behind : (b : ℕ) (front : List ℕ) (read : Result (List ℕ × List ℕ) ℕ) → onto b (behind front read) ≡ behind (b ∷ front) read
+onto_behind : (b : ℕ) (front : List ℕ) (read : Result (List ℕ × List ℕ) ℕ) → onto b (with_front front read) ≡ with_front (b ∷ front) read
 onto_behind b front (Ok x) = refl
 onto_behind b front (Err e) = refl
 
@@ -34,7 +35,7 @@ record Stands (i at : ℕ) (bs : List ℕ) : Type 0 where
   pub steps : ℕ
   pub place : at ≡ i + steps
   pub within : steps < length bs
-  pub read : quoted_at bs ≡ behind (take steps bs) (behind_quote (drop (steps + 1) bs))
+  pub read : quoted_at bs ≡ with_front (take steps bs) (behind_quote (drop (steps + 1) bs))
   pub written : quotes_doubled bs ≡ take steps bs ++ 39 ∷ 39 ∷ quotes_doubled (drop (steps + 1) bs)
 
 by_some : (t : Bool) (i at b : ℕ) (bs : List ℕ) → (position_from (λ b. b == 39) (i + 1) bs ≡ Some at → Stands (i + 1) at bs)
@@ -62,7 +63,7 @@ stands_from i at (b ∷ bs) h = by_some (b == 39) i at b bs (stands_from (i + 1)
 
 -- what the first quote splits
 abbrev pub Split : ℕ → List ℕ → Type 0
-Split at bs = (at < length bs) × (quoted_at bs ≡ behind (take at bs) (behind_quote (drop (at + 1) bs))) × (quotes_doubled bs ≡ take at bs ++ 39 ∷ 39 ∷ quotes_doubled (drop (at + 1) bs))
+Split at bs = (at < length bs) × (quoted_at bs ≡ with_front (take at bs) (behind_quote (drop (at + 1) bs))) × (quotes_doubled bs ≡ take at bs ++ 39 ∷ 39 ∷ quotes_doubled (drop (at + 1) bs))
 
 pub split : (at : ℕ) (bs : List ℕ) → position_from (λ b. b == 39) 0 bs ≡ Some at → Split at bs
 split at bs h = let s = stands_from 0 at bs h in let e : at ≡ s.steps = omega (arith, s.place) in rw e (s.within, s.read, s.written)

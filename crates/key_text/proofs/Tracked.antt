@@ -7,8 +7,8 @@ use Rattle.grammar.specs.Reading.{bind, then_read, map_read, mapped, ends, sign_
 use Rattle.grammar.proofs.Signs.{sign_exact}
 use Rattle.key_types.specs.Kinds.{Kind, tiny, small, int, big, text, blob, boolean, tuple, reversed, Kinds, end, more, Val, number, bytes, truth, values, Vals, none, and, Fits, within}
 use Rattle.key_text.specs.Grammar.{IsLiteral, AreLiterals, AreFurther, IsList}
-use Rattle.key_text.specs.Outside.{NumbersFit, AllNumbersFit, ItemPasses, SignPasses, LastPasses, Passes, AnyPasses, FurtherPasses, ListPasses}
-use Rattle.key_text.specs.Reading.{number_at, text_at, blob_at, truth_at, closed, no_close}
+use Rattle.key_text.specs.Outside.{NumbersFit, AllNumbersFit, ItemPasses, SignPasses, LastPasses, ValuePasses, AnyPasses, FurtherPasses, ListPasses}
+use Rattle.key_text.specs.Reading.{number_at, quoted_text_at, blob_at, truth_at, closed_read, no_close}
 use Rattle.key_text.specs.Marking.{Marked, kept, marked_number, marked_number_at, marked_at, marked_all, marked_rest, marked_list}
 use Rattle.key_text.proofs.Plain.{signed, number_value, value_at, all_at, rest_at, list_at, Follow}
 use Rattle.key_text.proofs.Lists.{value_exact}
@@ -53,39 +53,39 @@ abbrev GotNumber : Type 0
 GotNumber = Result ((Bool × ℕ) × List ℕ) ℕ
 
 module _ (t : Kind) (m : ℕ) (Fit : (z : ℤ) → IsTrue (within (negsuc m) (pos (suc m)) z) → Fits t (number z)) (Back : (z : ℤ) → Fits t (number z) → IsTrue (within (negsuc m) (pos (suc m)) z))
-    (one : Exact (map_read number_value (closed number_at)) (IsLiteral t) (λ _ b. Follow t b)) (NF : (z : ℤ) → Fits t (number z) → NumbersFit t (number z))
-    (PF : (z : ℤ) (bs : List ℕ) → IsLiteral t (number z) bs → (Fits t (number z) → ⊥) → Passes t bs 0) where
+    (one : Exact (map_read number_value (closed_read number_at)) (IsLiteral t) (λ _ b. Follow t b)) (NF : (z : ℤ) → Fits t (number z) → NumbersFit t (number z))
+    (PF : (z : ℤ) (bs : List ℕ) → IsLiteral t (number z) bs → (Fits t (number z) → ⊥) → ValuePasses t bs 0) where
   never : (b : Bool) → b ≡ false → b ≡ true → ⊥
   never true e h = cc
   never false e h = cc
 
   marked_by : (b : Bool) (z : ℤ) (front rest : List ℕ) (mark : Option ℕ) (bs : List ℕ) → within (negsuc m) (pos (suc m)) z ≡ b → bs ≡ front ++ rest → IsLiteral t (number z) front
-      → Tracked (IsLiteral t) (Passes t) (NumbersFit t) mark bs (Ok (marked_number mark (length bs) (kept_by b z), rest)) (Ok (number z, rest))
+      → Tracked (IsLiteral t) (ValuePasses t) (NumbersFit t) mark bs (Ok (marked_number mark (length bs) (kept_by b z), rest)) (Ok (number z, rest))
   marked_by true z front rest (Some x) bs e f is = (number z, front, refl, f, is, refl)
   marked_by true z front rest None bs e f is = (number z, front, refl, f, is, (NF z (Fit z e), refl))
   marked_by false z front rest (Some x) bs e f is = (number z, front, refl, f, is, refl)
   marked_by false z front rest None bs e f is = (number z, front, refl, f, is, (0, PF z front is (λ h. never (within (negsuc m) (pos (suc m)) z) e (Back z h)), omega arith))
 
-  number_by : (got : GotNumber) (mark : Option ℕ) (bs : List ℕ) → closed number_at bs ≡ got
-      → Tracked (IsLiteral t) (Passes t) (NumbersFit t) mark bs (mapped (λ x. marked_number mark (length bs) (kept (suc m) x.0 x.1)) got) (mapped number_value got)
+  number_by : (got : GotNumber) (mark : Option ℕ) (bs : List ℕ) → closed_read number_at bs ≡ got
+      → Tracked (IsLiteral t) (ValuePasses t) (NumbersFit t) mark bs (mapped (λ x. marked_number mark (length bs) (kept (suc m) x.0 x.1)) got) (mapped number_value got)
   number_by (Err e) mark bs g = refl
   number_by (Ok x) mark bs g =
       let z = signed x.0 in
       let p = one.found bs (number z) x.1 (ap (mapped number_value) g) in
-      subst (λ (k : Option ℤ). Tracked (IsLiteral t) (Passes t) (NumbersFit t) mark bs (Ok (marked_number mark (length bs) k, x.1)) (Ok (number z, x.1))) (sym (kept_within m x.0.0 x.0.1))
+      subst (λ (k : Option ℤ). Tracked (IsLiteral t) (ValuePasses t) (NumbersFit t) mark bs (Ok (marked_number mark (length bs) k, x.1)) (Ok (number z, x.1))) (sym (kept_within m x.0.0 x.0.1))
       (marked_by (within (negsuc m) (pos (suc m)) z) z p.0 x.1 mark bs refl p.1 p.2)
 
-  number_tracked : Tracks (IsLiteral t) (Passes t) (NumbersFit t) (marked_number_at (suc m)) (map_read number_value (closed number_at))
-  number_tracked mark bs = number_by (closed number_at bs) mark bs refl
+  number_tracked : Tracks (IsLiteral t) (ValuePasses t) (NumbersFit t) (marked_number_at (suc m)) (map_read number_value (closed_read number_at))
+  number_tracked mark bs = number_by (closed_read number_at bs) mark bs refl
 
 -- a value that has no number
 module _ {B : Type 0} (t : Kind) (f : B → Val) (r : Read B) (one : Exact (map_read f r) (IsLiteral t) (λ _ b. Follow t b)) (fine : (b : B) → NumbersFit t (f b)) where
-  other_by : (got : Result (B × List ℕ) ℕ) (mark : Option ℕ) (bs : List ℕ) → r bs ≡ got → Tracked (IsLiteral t) (Passes t) (NumbersFit t) mark bs (mapped (λ b. (f b, mark)) got) (mapped f got)
+  other_by : (got : Result (B × List ℕ) ℕ) (mark : Option ℕ) (bs : List ℕ) → r bs ≡ got → Tracked (IsLiteral t) (ValuePasses t) (NumbersFit t) mark bs (mapped (λ b. (f b, mark)) got) (mapped f got)
   other_by (Err e) mark bs g = refl
   other_by (Ok x) (Some y) bs g = let p = one.found bs (f x.0) x.1 (ap (mapped f) g) in (f x.0, p.0, refl, p.1, p.2, refl)
   other_by (Ok x) None bs g = let p = one.found bs (f x.0) x.1 (ap (mapped f) g) in (f x.0, p.0, refl, p.1, p.2, (fine x.0, refl))
 
-  other_tracked : Tracks (IsLiteral t) (Passes t) (NumbersFit t) (λ mark. map_read (λ b. (f b, mark)) r) (map_read f r)
+  other_tracked : Tracks (IsLiteral t) (ValuePasses t) (NumbersFit t) (λ mark. map_read (λ b. (f b, mark)) r) (map_read f r)
   other_tracked mark bs = other_by (r bs) mark bs refl
 
 -- ---- a sign before
@@ -145,11 +145,11 @@ module _ {B : Type 0} (f : Vals → B) (ts : Kinds) (marked : Option ℕ → Rea
 -- ---- a component and those behind it
 
 abbrev ItemP : Kind → Kinds → List ℕ → ℕ → Type 0
-ItemP t ts = ItemPasses t (Passes t) (AreFurther ts) (FurtherPasses ts)
+ItemP t ts = ItemPasses t (ValuePasses t) (AreFurther ts) (FurtherPasses ts)
 
-module _ (t : Kind) (ts : Kinds) (one : Tracks (IsLiteral t) (Passes t) (NumbersFit t) (marked_at t) (value_at t)) (two : Tracks (AreFurther ts) (FurtherPasses ts) (AllNumbersFit ts) (marked_rest ts) (rest_at ts)) where
+module _ (t : Kind) (ts : Kinds) (one : Tracks (IsLiteral t) (ValuePasses t) (NumbersFit t) (marked_at t) (value_at t)) (two : Tracks (AreFurther ts) (FurtherPasses ts) (AllNumbersFit ts) (marked_rest ts) (rest_at ts)) where
   item_marks : (mark middle now : Option ℕ) (v u : Val) (ws us : Vals) (front behind bs cs : List ℕ) → IsLiteral t v front → AreFurther ts ws behind → length bs ≡ length front + length cs
-      → Marks (Passes t front) (NumbersFit t v × (u ≡ v)) bs mark middle → Marks (FurtherPasses ts behind) (AllNumbersFit ts ws × (us ≡ ws)) cs middle now
+      → Marks (ValuePasses t front) (NumbersFit t v × (u ≡ v)) bs mark middle → Marks (FurtherPasses ts behind) (AllNumbersFit ts ws × (us ≡ ws)) cs middle now
       → Marks (ItemP t ts (front ++ behind)) (AllNumbersFit (more t ts) (and v ws) × (and u us ≡ and v ws)) bs mark now
   item_marks (Some z) middle now v u ws us front behind bs cs lit further l h k = subst (λ (m : Option ℕ). Marks (FurtherPasses ts behind) (AllNumbersFit ts ws × (us ≡ ws)) cs m now) h k
   item_marks None None None v u ws us front behind bs cs lit further l h k = ((h.0, k.0), ap (λ x. and x us) h.1 ∙ ap (λ y. and v y) k.1)
@@ -158,7 +158,7 @@ module _ (t : Kind) (ts : Kinds) (one : Tracks (IsLiteral t) (Passes t) (Numbers
       subst (λ (m : Option ℕ). Marks (ItemP t ts (front ++ behind)) (AllNumbersFit (more t ts) (and v ws) × (and u us ≡ and v ws)) bs None m) (sym k) (h.0, (front, behind, refl, inl (h.1, ws, further)), h.2)
 
   item_by : (got : Result (Marked Vals × List ℕ) ℕ) (read : Result (Vals × List ℕ) ℕ) (x : Marked Val) (v : Val) (front cs : List ℕ) (mark : Option ℕ) (bs : List ℕ) → bs ≡ front ++ cs → IsLiteral t v front
-      → Marks (Passes t front) (NumbersFit t v × (x.0 ≡ v)) bs mark x.1 → Tracked (AreFurther ts) (FurtherPasses ts) (AllNumbersFit ts) x.1 cs got read
+      → Marks (ValuePasses t front) (NumbersFit t v × (x.0 ≡ v)) bs mark x.1 → Tracked (AreFurther ts) (FurtherPasses ts) (AllNumbersFit ts) x.1 cs got read
       → Tracked (AreLiterals (more t ts)) (ItemP t ts) (AllNumbersFit (more t ts)) mark bs (mapped (λ y. (and x.0 y.0, y.1)) got) (mapped (and v) read)
   item_by (Err e) read x v front cs mark bs f lit marks h = ap (mapped (and v)) h
   item_by (Ok y) read x v front cs mark bs f lit marks (ws, behind, e, g, further, after) = (
@@ -170,7 +170,7 @@ module _ (t : Kind) (ts : Kinds) (one : Tracks (IsLiteral t) (Passes t) (Numbers
     item_marks mark x.1 y.0.1 v x.0 ws y.0.0 front behind bs cs lit further (ap length f ∙ length-append front cs) marks after,
   )
 
-  first_by : (got : Result (Marked Val × List ℕ) ℕ) (read : Result (Val × List ℕ) ℕ) (mark : Option ℕ) (bs : List ℕ) → Tracked (IsLiteral t) (Passes t) (NumbersFit t) mark bs got read
+  first_by : (got : Result (Marked Val × List ℕ) ℕ) (read : Result (Val × List ℕ) ℕ) (mark : Option ℕ) (bs : List ℕ) → Tracked (IsLiteral t) (ValuePasses t) (NumbersFit t) mark bs got read
       → Tracked (AreLiterals (more t ts)) (ItemP t ts) (AllNumbersFit (more t ts)) mark bs (bind got (λ x. map_read (λ y. (and x.0 y.0, y.1)) (marked_rest ts x.1))) (bind read (λ v. map_read (and v) (rest_at ts)))
   first_by (Err e) read mark bs h = ap (λ g. bind g (λ v. map_read (and v) (rest_at ts))) h
   first_by (Ok x) read mark bs (v, front, e, g, lit, marks) =
@@ -215,13 +215,13 @@ comma_inside t ts none left rest sign is = absurd is
 comma_inside t ts (and v ws) left rest sign (first, behind, lit, further, e) = (left, first, behind, sign, lit, further, ap (λ l. left ++ l) e)
 
 mutual
-  pub value_tracked : (t : Kind) → Tracks (IsLiteral t) (Passes t) (NumbersFit t) (marked_at t) (value_at t)
+  pub value_tracked : (t : Kind) → Tracks (IsLiteral t) (ValuePasses t) (NumbersFit t) (marked_at t) (value_at t)
   value_tracked tiny = number_tracked tiny 127 (λ z h. h) (λ z h. h) (value_exact tiny) (λ z h. h) (λ z bs is n. (z, is, n, refl))
   value_tracked small = number_tracked small 32767 (λ z h. h) (λ z h. h) (value_exact small) (λ z h. h) (λ z bs is n. (z, is, n, refl))
   value_tracked int = number_tracked int 2147483647 (λ z h. h) (λ z h. h) (value_exact int) (λ z h. h) (λ z bs is n. (z, is, n, refl))
   value_tracked big = number_tracked big 9223372036854775807 (λ z h. h) (λ z h. h) (value_exact big) (λ z h. h) (λ z bs is n. (z, is, n, refl))
-  value_tracked text = other_tracked text bytes (closed text_at) (value_exact text) (λ b. tt)
-  value_tracked blob = other_tracked blob bytes (closed blob_at) (value_exact blob) (λ b. tt)
+  value_tracked text = other_tracked text bytes (closed_read quoted_text_at) (value_exact text) (λ b. tt)
+  value_tracked blob = other_tracked blob bytes (closed_read blob_at) (value_exact blob) (λ b. tt)
   value_tracked boolean = other_tracked boolean truth truth_at (value_exact boolean) (λ b. tt)
   value_tracked (tuple ts) = sign_tracked 40 (omega arith) (InsideTuple ts) (IsLiteral (tuple ts)) (LastPasses (AnyPasses ts)) (NumbersFit (tuple ts)) (λ mark. then_read (marked_all ts mark) (λ x. map_read (λ _. (values x.0, x.1)) (sign_at 41)))
       (then_read (all_at ts) (λ vs. map_read (λ _. values vs) (sign_at 41)))

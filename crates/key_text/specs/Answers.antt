@@ -7,7 +7,7 @@ use Rattle.key_types.specs.Kinds.{Kind, Kinds, Fits, EachFits, value_of, values_
 use Rattle.key_text.specs.declared.reading.LiteralError.{LiteralError}
 use Rattle.key_text.specs.declared.reading.LiteralError.TheVariants.{BadToken, OutOfRange, NoMemory}
 use Rattle.key_text.specs.Grammar.{IsLiteral, IsList, IsText}
-use Rattle.key_text.specs.Outside.{Passes, ListPasses, TextPasses}
+use Rattle.key_text.specs.Outside.{ValuePasses, ListPasses, TextPasses}
 
 -- over what is written how, which values fit, and where the first number passes its type
 module _ {A : Type 0} (Is : A → List ℕ → Type 0) (Fit : A → Type 0) (Outside : List ℕ → ℕ → Type 0) where
@@ -19,8 +19,8 @@ module _ {A : Type 0} (Is : A → List ℕ → Type 0) (Fit : A → Type 0) (Out
   ReadsBy view bs (Err NoMemory) = Unit {0}
 
 -- a value of the type
-abbrev pub Reads : Kind → List ℕ → Result Value LiteralError → Type 0
-Reads t = ReadsBy (IsLiteral t) (Fits t) (Passes t) value_of
+abbrev pub ReadsValue : Kind → List ℕ → Result Value LiteralError → Type 0
+ReadsValue t = ReadsBy (IsLiteral t) (Fits t) (ValuePasses t) value_of
 
 -- a list of components, one of each type
 abbrev pub ReadsList : Kinds → List ℕ → Result ValueList LiteralError → Type 0

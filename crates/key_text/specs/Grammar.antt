@@ -6,15 +6,15 @@ use Rattle.grammar.specs.Reading.{IsSign}
 use Rattle.key_text.specs.Tokens.{IsNumber, IsBlob}
 
 -- a value of one token, with numbers of any size; the bytes of a text may be any here, and are UTF-8 where the whole text is
-abbrev pub IsToken : Kind → Val → List ℕ → Type 0
-IsToken tiny (number z) token = IsNumber z token
-IsToken small (number z) token = IsNumber z token
-IsToken int (number z) token = IsNumber z token
-IsToken big (number z) token = IsNumber z token
-IsToken text (bytes b) token = token ≡ text_literal b
-IsToken blob (bytes b) token = IsBlob b token
-IsToken boolean (truth b) token = token ≡ boolean_literal b
-IsToken _ _ _ = ⊥
+abbrev pub IsValueToken : Kind → Val → List ℕ → Type 0
+IsValueToken tiny (number z) token = IsNumber z token
+IsValueToken small (number z) token = IsNumber z token
+IsValueToken int (number z) token = IsNumber z token
+IsValueToken big (number z) token = IsNumber z token
+IsValueToken text (bytes b) token = token ≡ text_literal b
+IsValueToken blob (bytes b) token = IsBlob b token
+IsValueToken boolean (truth b) token = token ≡ boolean_literal b
+IsValueToken _ _ _ = ⊥
 
 -- a token with spaces behind it, or none
 abbrev pub IsSpaced : (List ℕ → Type 0) → List ℕ → Type 0
@@ -30,7 +30,7 @@ abbrev mutual
   IsLiteral (tuple ts) (values vs) bs = IsEnclosed (AreLiterals ts vs) bs
   IsLiteral (tuple ts) _ bs = ⊥
   IsLiteral (reversed t) v bs = IsLiteral t v bs
-  IsLiteral t v bs = IsSpaced (IsToken t v) bs
+  IsLiteral t v bs = IsSpaced (IsValueToken t v) bs
 
   -- components with a comma between each two
   pub AreLiterals : Kinds → Vals → List ℕ → Type 0

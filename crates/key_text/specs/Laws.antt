@@ -8,14 +8,14 @@ use Rattle.key_types.specs.Literals.{literal, list_literal}
 use Rattle.key_text.specs.declared.reading.LiteralError.{LiteralError}
 use Rattle.key_text.specs.declared.reading.LiteralError.TheVariants.{NoMemory}
 use Rattle.key_text.specs.Grammar.{IsLiteral, IsList, IsText}
-use Rattle.key_text.specs.Outside.{Passes, ListPasses, TextPasses}
-use Rattle.key_text.specs.Answers.{Reads, ReadsList}
+use Rattle.key_text.specs.Outside.{ValuePasses, ListPasses, TextPasses}
+use Rattle.key_text.specs.Answers.{ReadsValue, ReadsList}
 
 -- this was read, unless memory ran out
-abbrev pub IsRead : {X A : Type 0} → (X → A) → A → Result X LiteralError → Type 0
-IsRead view a (Ok x) = view x ≡ a
-IsRead view a (Err NoMemory) = Unit {0}
-IsRead view a (Err _) = ⊥
+abbrev pub IsLiteralRead : {X A : Type 0} → (X → A) → A → Result X LiteralError → Type 0
+IsLiteralRead view a (Ok x) = view x ≡ a
+IsLiteralRead view a (Err NoMemory) = Unit {0}
+IsLiteralRead view a (Err _) = ⊥
 
 -- the laws of the texts of values
 pub record LiteralTexts : Type 0 where
@@ -29,8 +29,8 @@ pub record LiteralTexts : Type 0 where
   pub value_one : (t : Kind) (v w : Val) (bs : List ℕ) → IsText (IsLiteral t) v bs → IsText (IsLiteral t) w bs → v ≡ w
   pub list_one : (ts : Kinds) (vs ws : Vals) (bs : List ℕ) → IsText (IsList ts) vs bs → IsText (IsList ts) ws bs → vs ≡ ws
   -- a text in which a number passes its type is of no value that fits, and of no list of such values
-  pub value_outside : (t : Kind) (v : Val) (bs : List ℕ) (at : ℕ) → TextPasses (Passes t) bs at → IsText (IsLiteral t) v bs → Fits t v → ⊥
+  pub value_outside : (t : Kind) (v : Val) (bs : List ℕ) (at : ℕ) → TextPasses (ValuePasses t) bs at → IsText (IsLiteral t) v bs → Fits t v → ⊥
   pub list_outside : (ts : Kinds) (vs : Vals) (bs : List ℕ) (at : ℕ) → TextPasses (ListPasses ts) bs at → IsText (IsList ts) vs bs → EachFits ts vs → ⊥
   -- so what is written is read back as the same value, and as the same list
-  pub value_back : (t : Kind) (v : Val) (result : Result Value LiteralError) → Fits t v → Reads t (literal t v) result → IsRead value_of v result
-  pub list_back : (ts : Kinds) (vs : Vals) (result : Result ValueList LiteralError) → EachFits ts vs → ReadsList ts (list_literal ts vs) result → IsRead values_of vs result
+  pub value_back : (t : Kind) (v : Val) (result : Result Value LiteralError) → Fits t v → ReadsValue t (literal t v) result → IsLiteralRead value_of v result
+  pub list_back : (ts : Kinds) (vs : Vals) (result : Result ValueList LiteralError) → EachFits ts vs → ReadsList ts (list_literal ts vs) result → IsLiteralRead values_of vs result

@@ -3,7 +3,7 @@ use Rattle.std.specs.Prelude.{ℕ, ◌^◌, nat_le, nat_lt, Bool, true, false, l
 use Rattle.grammar.specs.Exact.{Read}
 use Rattle.grammar.specs.Reading.{then_read, map_read, mapped, ends, sign_at}
 use Rattle.key_types.specs.Kinds.{Kind, tiny, small, int, big, text, blob, boolean, tuple, reversed, Kinds, end, more, Val, number, bytes, truth, values, Vals, none, and}
-use Rattle.key_text.specs.Reading.{number_at, text_at, blob_at, truth_at, closed, no_close}
+use Rattle.key_text.specs.Reading.{number_at, quoted_text_at, blob_at, truth_at, closed_read, no_close}
 
 -- the numbers of a type are from the negative of this on and below it
 abbrev pub bound : Kind → ℕ
@@ -34,7 +34,7 @@ marked_number mark left None = (number (pos 0), first_of mark left)
 
 -- a number of a type whose numbers are within the bound
 abbrev pub marked_number_at : ℕ → Option ℕ → Read (Marked Val)
-marked_number_at most mark bs = mapped (λ x. marked_number mark (length bs) (kept most x.0 x.1)) (closed number_at bs)
+marked_number_at most mark bs = mapped (λ x. marked_number mark (length bs) (kept most x.0 x.1)) (closed_read number_at bs)
 
 abbrev mutual
   pub marked_at : Kind → Option ℕ → Read (Marked Val)
@@ -42,8 +42,8 @@ abbrev mutual
   marked_at small mark = marked_number_at (2 ^ 15) mark
   marked_at int mark = marked_number_at (2 ^ 31) mark
   marked_at big mark = marked_number_at (2 ^ 63) mark
-  marked_at text mark = map_read (λ b. (bytes b, mark)) (closed text_at)
-  marked_at blob mark = map_read (λ b. (bytes b, mark)) (closed blob_at)
+  marked_at text mark = map_read (λ b. (bytes b, mark)) (closed_read quoted_text_at)
+  marked_at blob mark = map_read (λ b. (bytes b, mark)) (closed_read blob_at)
   marked_at boolean mark = map_read (λ b. (truth b, mark)) truth_at
   marked_at (tuple ts) mark =
       then_read (sign_at 40) (λ _. then_read (marked_all ts mark) (λ x. map_read (λ _. (values x.0, x.1)) (sign_at 41)))

@@ -32,18 +32,18 @@ LastPasses Inside bs at = (inside : List ℕ) × (right : List ℕ) × Inside in
 
 -- the bytes are a literal of the type with numbers of any size, and its first number that passes its type begins at this place
 abbrev mutual
-  pub Passes : Kind → List ℕ → ℕ → Type 0
-  Passes (tuple ts) bs at = SignPasses 40 (LastPasses (AnyPasses ts)) bs at
-  Passes (reversed t) bs at = Passes t bs at
-  Passes t bs at = (z : ℤ) × IsLiteral t (number z) bs × (Fits t (number z) → ⊥) × (at ≡ 0)
+  pub ValuePasses : Kind → List ℕ → ℕ → Type 0
+  ValuePasses (tuple ts) bs at = SignPasses 40 (LastPasses (AnyPasses ts)) bs at
+  ValuePasses (reversed t) bs at = ValuePasses t bs at
+  ValuePasses t bs at = (z : ℤ) × IsLiteral t (number z) bs × (Fits t (number z) → ⊥) × (at ≡ 0)
 
   pub AnyPasses : Kinds → List ℕ → ℕ → Type 0
   AnyPasses end bs at = ⊥
-  AnyPasses (more t ts) bs at = ItemPasses t (Passes t) (AreFurther ts) (FurtherPasses ts) bs at
+  AnyPasses (more t ts) bs at = ItemPasses t (ValuePasses t) (AreFurther ts) (FurtherPasses ts) bs at
 
   pub FurtherPasses : Kinds → List ℕ → ℕ → Type 0
   FurtherPasses end bs at = ⊥
-  FurtherPasses (more t ts) bs at = SignPasses 44 (ItemPasses t (Passes t) (AreFurther ts) (FurtherPasses ts)) bs at
+  FurtherPasses (more t ts) bs at = SignPasses 44 (ItemPasses t (ValuePasses t) (AreFurther ts) (FurtherPasses ts)) bs at
 
 -- of a list of components
 abbrev pub ListPasses : Kinds → List ℕ → ℕ → Type 0

@@ -1,7 +1,7 @@
 -- How the code reads tokens from the front of bytes: only private contracts cite it. That it reads exactly the grammar is proved.
 use Rattle.std.specs.Prelude.{ℕ, ◌+◌, ◌-◌, ◌*◌, ◌^◌, ◌==◌, ◌||◌, not, min, Bool, true, false, ⊤, List, [], ◌∷◌, ◌++◌, length, Option, Some, None, Result, Ok, Err, codes, if◌then◌else◌}
 use Rattle.grammar.specs.Exact.{Read}
-use Rattle.grammar.specs.Reading.{then_read, mapped, map_read, literal, ends, by_first, one_of, spaces_at}
+use Rattle.grammar.specs.Reading.{then_read, mapped, map_read, given_at, ends, by_first, one_of, spaces_at, onto, with_front}
 use Rattle.key_text.specs.Tokens.{is_digit, is_nonzero, is_hex, hex_value}
 
 -- ---- numbers
@@ -22,7 +22,7 @@ is_zero b = b == 48
 
 -- a 0 that stands alone
 abbrev pub zero_at : Read ℕ
-zero_at = then_read (literal (codes "0")) (λ _. ends is_digit 0)
+zero_at = then_read (given_at (codes "0")) (λ _. ends is_digit 0)
 
 -- digits without leading zeros
 abbrev pub magnitude_at : Read ℕ
@@ -34,18 +34,13 @@ is_minus b = b == 45
 
 -- whether there is a minus, and the number without it
 abbrev pub number_at : Read (Bool × ℕ)
-number_at = by_first is_minus (then_read (literal (codes "-")) (λ _. map_read (λ n. (true, n)) positive_at)) (map_read (λ n. (false, n)) magnitude_at)
+number_at = by_first is_minus (then_read (given_at (codes "-")) (λ _. map_read (λ n. (true, n)) positive_at)) (map_read (λ n. (false, n)) magnitude_at)
 
 -- greater numbers are read as this one
-abbrev pub capped : Bool × ℕ → Bool × ℕ
-capped x = (x.0, min x.1 (2 ^ 64 - 1))
+abbrev pub capped_number : Bool × ℕ → Bool × ℕ
+capped_number x = (x.0, min x.1 (2 ^ 64 - 1))
 
 -- ---- texts
-
--- a byte in front of what is read
-abbrev pub onto : ℕ → Result (List ℕ × List ℕ) ℕ → Result (List ℕ × List ℕ) ℕ
-onto b (Ok x) = Ok (b ∷ x.0, x.1)
-onto b (Err e) = Err e
 
 -- up to the first quote that stands alone: two in a row stand for one
 abbrev mutual
@@ -58,8 +53,8 @@ abbrev mutual
   behind_quote (b ∷ bs) = if b == 39 then onto 39 (quoted_at bs) else Ok ([], b ∷ bs)
 
 -- a text in quotes
-abbrev pub text_at : Read (List ℕ)
-text_at = then_read (literal (codes "'")) (λ _. quoted_at)
+abbrev pub quoted_text_at : Read (List ℕ)
+quoted_text_at = then_read (given_at (codes "'")) (λ _. quoted_at)
 
 -- ---- blobs
 
@@ -76,7 +71,7 @@ abbrev mutual
 
 -- 0x and pairs of digits
 abbrev pub blob_at : Read (List ℕ)
-blob_at = then_read (literal (codes "0x")) (λ _. hex_at)
+blob_at = then_read (given_at (codes "0x")) (λ _. hex_at)
 
 -- ---- with what may stand behind them
 
@@ -93,8 +88,8 @@ abbrev pub closing_at : Read ⊤
 closing_at = then_read spaces_at (λ _. ends no_end tt)
 
 -- a token, and what stands behind it up to the end of a value
-abbrev pub closed : {A : Type 0} → Read A → Read A
-closed {A} r = then_read r (λ v. map_read (λ _. v) closing_at)
+abbrev pub closed_read : {A : Type 0} → Read A → Read A
+closed_read {A} r = then_read r (λ v. map_read (λ _. v) closing_at)
 
 -- the word of a boolean, and whether spaces stand behind it
 abbrev pub truth_word_at : Read (Bool × Bool)
@@ -114,8 +109,3 @@ capped_all read = mapped (λ n. min n (2 ^ 64 - 1)) read
 abbrev pub pair_by : Option ℕ → Read (List ℕ)
 pair_by None rest = Ok ([], rest)
 pair_by (Some b) rest = onto b (hex_at rest)
-
--- what was read before in front of what is read
-abbrev pub behind : List ℕ → Result (List ℕ × List ℕ) ℕ → Result (List ℕ × List ℕ) ℕ
-behind front (Ok x) = Ok (front ++ x.0, x.1)
-behind front (Err e) = Err e

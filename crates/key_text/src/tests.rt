@@ -1,3 +1,4 @@
+//! Vectors of literals, and of their refusals.
 ghost use Rattle.std.specs.Prelude.{◌≡◌, IfOk};
 ghost use Rattle.key_types.specs.Kinds.{kind_of, kinds_of, values_of, EachFits, more, end, int};
 

@@ -1,10 +1,10 @@
 //! The tokens of literals, from the front of bytes.
 ghost use Rattle.std.specs.Prelude.{◌≡◌, ◌≤◌, ◌<◌, ◌+◌, ◌*◌, ◌^◌, ◌∷◌, [], ℕ, List, length, min, codes, Ok, Err, IfOk, IfErr, IfSome, IfNone, ⊤, true, Option, Some, None};
 ghost use Rattle.grammar.specs.Code.{Gives};
-ghost use Rattle.grammar.specs.Reading.{literal, ends, mapped, map_read, spaces_at};
+ghost use Rattle.grammar.specs.Reading.{given_at, ends, mapped, map_read, spaces_at, with_front};
 ghost use Rattle.grammar.specs.declared.stop.Stop.TheVariants.{At};
 ghost use Rattle.key_text.specs.Tokens.{is_digit, is_hex, hex_value};
-ghost use Rattle.key_text.specs.Reading.{digits_at, positive_at, zero_at, magnitude_at, number_at, capped, capped_all, quoted_at, behind, text_at, hex_at, pair_by, blob_at, no_end, no_close, closing_at, truth_word_at, truth_at};
+ghost use Rattle.key_text.specs.Reading.{digits_at, positive_at, zero_at, magnitude_at, number_at, capped_number, capped_all, quoted_at, quoted_text_at, hex_at, pair_by, blob_at, no_end, no_close, closing_at, truth_word_at, truth_at};
 
 use crate::quotes::split_quote;
 use grammar::{Stop, further, read_word, skip_spaces};
@@ -88,7 +88,7 @@ fn read_magnitude(bytes: &[u8]) -> Result<(u64, &[u8]), Stop>
 
 /// A number of any size: whether there is a minus, and the number without it.
 pub fn read_number(bytes: &[u8]) -> Result<(bool, u64, &[u8]), Stop>
-    ensures { Gives (λ x. ((x.0, x.1), x.2.now)) result (mapped capped (number_at bytes.now)) }
+    ensures { Gives (λ x. ((x.0, x.1), x.2.now)) result (mapped capped_number (number_at bytes.now)) }
 {
     match bytes {
         [b'-', rest @ ..] => {
@@ -110,15 +110,11 @@ fn read_quoted(alloc: Global, bytes: &[u8]) -> Result<(ByteList, &[u8]), Stop>
     let mut out = ByteList::new(alloc);
     let mut rest = bytes;
     'quotes: while let Some((span, after)) = split_quote(rest) {
-        if out.extend(span).is_err() {
-            return Err(Stop::Memory);
-        }
+        out.extend(span)?;
         let [b'\'', further @ ..] = after else {
             return Ok((out, after));
         };
-        if out.push(b'\'').is_err() {
-            return Err(Stop::Memory);
-        }
+        out.push(b'\'')?;
         rest = further;
     }
     Err(Stop::At(0))
@@ -126,7 +122,7 @@ fn read_quoted(alloc: Global, bytes: &[u8]) -> Result<(ByteList, &[u8]), Stop>
 
 /// A text in quotes in which no quote stands, as it stands; `None` where none is seen.
 pub fn read_plain(bytes: &[u8]) -> Option<(&[u8], &[u8])>
-    ensures { IfSome result (λ x. text_at bytes.now ≡ Ok (x.0.now, x.1.now)) }
+    ensures { IfSome result (λ x. quoted_text_at bytes.now ≡ Ok (x.0.now, x.1.now)) }
 {
     let [b'\'', rest @ ..] = bytes else {
         return None;
@@ -140,7 +136,7 @@ pub fn read_plain(bytes: &[u8]) -> Option<(&[u8], &[u8])>
 
 /// A text in quotes.
 pub fn read_text(alloc: Global, bytes: &[u8]) -> Result<(ByteList, &[u8]), Stop>
-    ensures { Gives (λ x. (x.0, x.1.now)) result (text_at bytes.now) }
+    ensures { Gives (λ x. (x.0, x.1.now)) result (quoted_text_at bytes.now) }
 {
     match bytes {
         [b'\'', rest @ ..] => read_quoted(alloc, rest),
@@ -195,9 +191,7 @@ fn read_hex(alloc: Global, bytes: &[u8]) -> Result<(ByteList, &[u8]), Stop>
         let Some(byte) = next else {
             return Ok((out, after));
         };
-        if out.push(byte).is_err() {
-            return Err(Stop::Memory);
-        }
+        out.push(byte)?;
         rest = after;
     }
 }

@@ -1,8 +1,9 @@
+//! Literals of every type from the front of bytes. The first number that passes its type is marked, and read on.
 ghost use Rattle.std.specs.Prelude.{◌≡◌, ◌≤◌, ℕ, ◌^◌, Option, Some, None, Ok, IfSome};
 ghost use Rattle.grammar.specs.Code.{Gives};
 ghost use Rattle.key_types.specs.Kinds.{kind_of, kinds_of, value_of, values_of};
 ghost use Rattle.key_text.specs.Marking.{kept, first_of, marked_number_at, marked_at, marked_all, marked_rest, marked_list};
-ghost use Rattle.key_text.specs.Reading.{closed, text_at, blob_at};
+ghost use Rattle.key_text.specs.Reading.{closed_read, quoted_text_at, blob_at};
 
 use crate::tokens::{
     list_ends, read_blob, read_closing, read_number, read_plain, read_text, read_truth,
@@ -32,29 +33,29 @@ fn within(bound: u64, negative: bool, number: u64) -> Option<i64>
 }
 
 /// Marks a place, unless one before it is marked.
-fn mark(outside: &mut Option<usize>, left: usize)
-    ensures { outside.new ≡ first_of outside.old left }
+fn mark(out_of_range: &mut Option<usize>, left: usize)
+    ensures { out_of_range.new ≡ first_of out_of_range.old left }
 {
-    if outside.is_none() {
-        *outside = Some(left);
+    if out_of_range.is_none() {
+        *out_of_range = Some(left);
     }
 }
 
 /// A number of a type whose numbers are within the bound. One that isn't is marked, and read as 0.
 fn read_within<'a>(
     bound: u64,
-    outside: &mut Option<usize>,
+    out_of_range: &mut Option<usize>,
     bytes: &'a [u8],
 ) -> Result<(Value, &'a [u8]), Stop>
     requires { bound ≤ 2 ^ 63 }
-    ensures { Gives (λ x. ((value_of x.0, outside.new), x.1.now)) result (marked_number_at bound outside.old bytes.now) }
+    ensures { Gives (λ x. ((value_of x.0, out_of_range.new), x.1.now)) result (marked_number_at bound out_of_range.old bytes.now) }
 {
     let (negative, number, rest) = read_number(bytes)?;
     let rest = read_closing(rest)?;
     match within(bound, negative, number) {
         Some(number) => Ok((Value::Number(number), rest)),
         None => {
-            mark(outside, bytes.len());
+            mark(out_of_range, bytes.len());
             Ok((Value::Number(0), rest))
         }
     }
@@ -62,7 +63,7 @@ fn read_within<'a>(
 
 /// A text in which no quote stands, as it stands, up to the end of a value; `None` where none is seen. It takes no memory.
 pub fn plain_text(bytes: &[u8]) -> Option<(&[u8], &[u8])>
-    ensures { IfSome result (λ x. closed text_at bytes.now ≡ Ok (x.0.now, x.1.now)) }
+    ensures { IfSome result (λ x. closed_read quoted_text_at bytes.now ≡ Ok (x.0.now, x.1.now)) }
 {
     let (text, rest) = read_plain(bytes)?;
     match read_closing(rest) {
@@ -73,7 +74,7 @@ pub fn plain_text(bytes: &[u8]) -> Option<(&[u8], &[u8])>
 
 /// A text, up to the end of a value.
 pub fn read_closed_text(alloc: Global, bytes: &[u8]) -> Result<(ByteList, &[u8]), Stop>
-    ensures { Gives (λ x. (x.0, x.1.now)) result (closed text_at bytes.now) }
+    ensures { Gives (λ x. (x.0, x.1.now)) result (closed_read quoted_text_at bytes.now) }
 {
     let (text, rest) = read_text(alloc, bytes)?;
     let rest = read_closing(rest)?;
@@ -82,7 +83,7 @@ pub fn read_closed_text(alloc: Global, bytes: &[u8]) -> Result<(ByteList, &[u8])
 
 /// A blob, up to the end of a value.
 pub fn read_closed_blob(alloc: Global, bytes: &[u8]) -> Result<(ByteList, &[u8]), Stop>
-    ensures { Gives (λ x. (x.0, x.1.now)) result (closed blob_at bytes.now) }
+    ensures { Gives (λ x. (x.0, x.1.now)) result (closed_read blob_at bytes.now) }
 {
     let (blob, rest) = read_blob(alloc, bytes)?;
     let rest = read_closing(rest)?;
@@ -94,16 +95,16 @@ pub fn read_closed_blob(alloc: Global, bytes: &[u8]) -> Result<(ByteList, &[u8])
 pub fn read_marked<'a>(
     alloc: Global,
     kind: &ColType,
-    outside: &mut Option<usize>,
+    out_of_range: &mut Option<usize>,
     bytes: &'a [u8],
 ) -> Result<(Value, &'a [u8]), Stop>
-    ensures { Gives (λ x. ((value_of x.0, outside.new), x.1.now)) result (marked_at (kind_of kind.now) outside.old bytes.now) }
+    ensures { Gives (λ x. ((value_of x.0, out_of_range.new), x.1.now)) result (marked_at (kind_of kind.now) out_of_range.old bytes.now) }
 {
     match kind {
-        ColType::TinyInt => read_within(0x80, outside, bytes),
-        ColType::SmallInt => read_within(0x8000, outside, bytes),
-        ColType::Int => read_within(0x8000_0000, outside, bytes),
-        ColType::BigInt => read_within(0x8000_0000_0000_0000, outside, bytes),
+        ColType::TinyInt => read_within(0x80, out_of_range, bytes),
+        ColType::SmallInt => read_within(0x8000, out_of_range, bytes),
+        ColType::Int => read_within(0x8000_0000, out_of_range, bytes),
+        ColType::BigInt => read_within(0x8000_0000_0000_0000, out_of_range, bytes),
         ColType::Text => {
             let (text, rest) = read_closed_text(alloc, bytes)?;
             Ok((Value::Bytes(text), rest))
@@ -117,10 +118,10 @@ pub fn read_marked<'a>(
             Ok((Value::Truth(truth), rest))
         }
         ColType::Tuple(kinds) => {
-            let (values, rest) = read_marked_list(alloc, kinds, outside, bytes)?;
+            let (values, rest) = read_marked_list(alloc, kinds, out_of_range, bytes)?;
             Ok((Value::Tuple(values), rest))
         }
-        ColType::Reversed(inner) => read_marked(alloc, inner, outside, bytes),
+        ColType::Reversed(inner) => read_marked(alloc, inner, out_of_range, bytes),
     }
 }
 
@@ -129,13 +130,13 @@ pub fn read_marked<'a>(
 pub fn read_marked_list<'a>(
     alloc: Global,
     kinds: &TypeList,
-    outside: &mut Option<usize>,
+    out_of_range: &mut Option<usize>,
     bytes: &'a [u8],
 ) -> Result<(ValueList, &'a [u8]), Stop>
-    ensures { Gives (λ x. ((values_of x.0, outside.new), x.1.now)) result (marked_list (kinds_of kinds.now) outside.old bytes.now) }
+    ensures { Gives (λ x. ((values_of x.0, out_of_range.new), x.1.now)) result (marked_list (kinds_of kinds.now) out_of_range.old bytes.now) }
 {
     let rest = read_sign(b'(', bytes)?;
-    let (values, rest) = read_marked_all(alloc, kinds, outside, rest)?;
+    let (values, rest) = read_marked_all(alloc, kinds, out_of_range, rest)?;
     let rest = read_sign(b')', rest)?;
     Ok((values, rest))
 }
@@ -145,10 +146,10 @@ pub fn read_marked_list<'a>(
 fn read_marked_all<'a>(
     alloc: Global,
     kinds: &TypeList,
-    outside: &mut Option<usize>,
+    out_of_range: &mut Option<usize>,
     bytes: &'a [u8],
 ) -> Result<(ValueList, &'a [u8]), Stop>
-    ensures { Gives (λ x. ((values_of x.0, outside.new), x.1.now)) result (marked_all (kinds_of kinds.now) outside.old bytes.now) }
+    ensures { Gives (λ x. ((values_of x.0, out_of_range.new), x.1.now)) result (marked_all (kinds_of kinds.now) out_of_range.old bytes.now) }
 {
     match kinds {
         TypeList::End => {
@@ -156,8 +157,8 @@ fn read_marked_all<'a>(
             Ok((ValueList::End, rest))
         }
         TypeList::More(kind, kinds) => {
-            let (value, rest) = read_marked(alloc, kind, outside, bytes)?;
-            let (values, rest) = read_marked_rest(alloc, kinds, outside, rest)?;
+            let (value, rest) = read_marked(alloc, kind, out_of_range, bytes)?;
+            let (values, rest) = read_marked_rest(alloc, kinds, out_of_range, rest)?;
             let values = ValueList::More(Box::new(alloc, value)?, Box::new(alloc, values)?);
             Ok((values, rest))
         }
@@ -169,10 +170,10 @@ fn read_marked_all<'a>(
 fn read_marked_rest<'a>(
     alloc: Global,
     kinds: &TypeList,
-    outside: &mut Option<usize>,
+    out_of_range: &mut Option<usize>,
     bytes: &'a [u8],
 ) -> Result<(ValueList, &'a [u8]), Stop>
-    ensures { Gives (λ x. ((values_of x.0, outside.new), x.1.now)) result (marked_rest (kinds_of kinds.now) outside.old bytes.now) }
+    ensures { Gives (λ x. ((values_of x.0, out_of_range.new), x.1.now)) result (marked_rest (kinds_of kinds.now) out_of_range.old bytes.now) }
 {
     match kinds {
         TypeList::End => {
@@ -181,8 +182,8 @@ fn read_marked_rest<'a>(
         }
         TypeList::More(kind, kinds) => {
             let rest = read_sign(b',', bytes)?;
-            let (value, rest) = read_marked(alloc, kind, outside, rest)?;
-            let (values, rest) = read_marked_rest(alloc, kinds, outside, rest)?;
+            let (value, rest) = read_marked(alloc, kind, out_of_range, rest)?;
+            let (values, rest) = read_marked_rest(alloc, kinds, out_of_range, rest)?;
             let values = ValueList::More(Box::new(alloc, value)?, Box::new(alloc, values)?);
             Ok((values, rest))
         }

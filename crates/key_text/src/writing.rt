@@ -1,3 +1,4 @@
+//! Literals, and the lines of rows and static values, appended to bytes.
 ghost use Rattle.std.specs.Prelude.{◌≡◌, ◌<◌, ◌++◌, ◌∷◌, [], length, take, OnOk, OnErr};
 ghost use Rattle.std.specs.Fmt.{signed_decimal};
 ghost use Rattle.key_types.specs.Kinds.{kind_of, kinds_of, value_of, values_of, EachFits};

@@ -18,20 +18,20 @@ kinds_in Partition schema = kinds_of schema.partition
 kinds_in Clustering schema = kinds_of schema.clustering
 
 -- the bytes, and a line feed
-abbrev pub line_of : List ℕ → List ℕ
-line_of bytes = bytes ++ 10 ∷ []
+abbrev pub ended_line : List ℕ → List ℕ
+ended_line bytes = bytes ++ 10 ∷ []
 
 -- the text is a literal of these components, each of which fits its type
-abbrev pub Spells : Kinds → List ℕ → Vals → Type 0
-Spells kinds text components = IsText (IsList kinds) components text × EachFits kinds components
+abbrev pub SpellsComponents : Kinds → List ℕ → Vals → Type 0
+SpellsComponents kinds text components = IsText (IsList kinds) components text × EachFits kinds components
 
 -- the components have a string of at most 1,024 bytes, and the line is this string in lower hexadecimal
 abbrev pub IsStringLine : Kinds → Vals → List ℕ → Type 0
-IsStringLine kinds components line = (string : List ℕ) × (string_of kinds components ≡ Ok string) × (line ≡ line_of (hex_digits string))
+IsStringLine kinds components line = (string : List ℕ) × (string_of kinds components ≡ Ok string) × (line ≡ ended_line (hex_digits string))
 
 -- the text spells components, and the line is that of their string
-abbrev pub Encodes : Kinds → List ℕ → List ℕ → Type 0
-Encodes kinds text line = (components : Vals) × Spells kinds text components × IsStringLine kinds components line
+abbrev pub ShowsEncoded : Kinds → List ℕ → List ℕ → Type 0
+ShowsEncoded kinds text line = (components : Vals) × SpellsComponents kinds text components × IsStringLine kinds components line
 
 -- the bytes are the string, of any length, of these components, each of which fits its type
 abbrev pub HasString : Kinds → List ℕ → Vals → Type 0
@@ -39,13 +39,13 @@ HasString kinds bytes components = EachFits kinds components × (bytes ≡ key_s
 
 -- the bytes are the string of some components, and the line is the literal of these
 abbrev pub IsListLine : Kinds → List ℕ → List ℕ → Type 0
-IsListLine kinds bytes line = (components : Vals) × HasString kinds bytes components × (line ≡ line_of (list_literal kinds components))
+IsListLine kinds bytes line = (components : Vals) × HasString kinds bytes components × (line ≡ ended_line (list_literal kinds components))
 
 -- the text is bytes in hexadecimal, with digits of both cases, and the line is that of the bytes' components
-abbrev pub Decodes : Kinds → List ℕ → List ℕ → Type 0
-Decodes kinds text line = (bytes : List ℕ) × AreHex bytes text × IsListLine kinds bytes line
+abbrev pub ShowsDecoded : Kinds → List ℕ → List ℕ → Type 0
+ShowsDecoded kinds text line = (bytes : List ℕ) × AreHex bytes text × IsListLine kinds bytes line
 
 -- the line that is shown of the text in this way
-abbrev pub Shows : KeyWay → Kinds → List ℕ → List ℕ → Type 0
-Shows Encode = Encodes
-Shows Decode = Decodes
+abbrev pub ShowsLine : KeyWay → Kinds → List ℕ → List ℕ → Type 0
+ShowsLine Encode = ShowsEncoded
+ShowsLine Decode = ShowsDecoded

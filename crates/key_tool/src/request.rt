@@ -2,6 +2,7 @@
 ghost use Rattle.std.specs.Prelude.{◌≡◌};
 
 use key_types::NoMemory;
+use thiserror::Error;
 
 /// A part of a key.
 #[derive(Clone, Copy, Debug, PartialEq, Eq)]
@@ -22,11 +23,13 @@ pub enum KeyWay {
 }
 
 /// Why nothing is shown of a text.
-#[derive(Clone, Copy, Debug, PartialEq, Eq)]
+#[derive(Clone, Copy, Debug, PartialEq, Eq, Error)]
 pub enum KeyFault {
     /// The text is no list of components that fit and have a string, or no string of such components.
+    #[error("the text is refused")]
     Refused,
     /// Memory ran out.
+    #[error("out of memory")]
     NoMemory,
 }
 

@@ -1,7 +1,8 @@
+//! The one line that the command `key` shows of a text.
 ghost use Rattle.std.specs.Prelude.{◌≡◌};
 ghost use Rattle.key_types.specs.Kinds.{kinds_of, values_of};
 ghost use Rattle.key_tool.specs.Answers.{Finds};
-ghost use Rattle.key_tool.specs.Shown.{Decodes, Encodes, IsListLine, IsStringLine, Shows, kinds_in};
+ghost use Rattle.key_tool.specs.Shown.{ShowsDecoded, ShowsEncoded, IsListLine, IsStringLine, ShowsLine, kinds_in};
 
 use crate::request::{KeyFault, KeyPart, KeyWay};
 use crate::steps::{bytes_of, components_of, hex_line, list_line, read_string, string_of};
@@ -33,7 +34,7 @@ fn string_line(
 
 /// The line of the string of the list that the text is.
 fn encode(alloc: Global, schema: &Schema, part: KeyPart, text: &str) -> Result<ByteList, KeyFault>
-    ensures { Finds (λ line. line) (Encodes (kinds_in part schema.now) text.now) result }
+    ensures { Finds (λ line. line) (ShowsEncoded (kinds_in part schema.now) text.now) result }
 {
     let components = components_of(alloc, kinds_in(part, schema), text)?;
     string_line(alloc, schema, part, &components)
@@ -54,7 +55,7 @@ fn components_line(
 
 /// The line of the list whose string the hexadecimal text is.
 fn decode(alloc: Global, schema: &Schema, part: KeyPart, text: &str) -> Result<ByteList, KeyFault>
-    ensures { Finds (λ line. line) (Decodes (kinds_in part schema.now) text.now) result }
+    ensures { Finds (λ line. line) (ShowsDecoded (kinds_in part schema.now) text.now) result }
 {
     let bytes = bytes_of(alloc, text)?;
     components_line(alloc, schema, part, bytes.as_slice())
@@ -72,7 +73,7 @@ pub fn show_key(
     way: KeyWay,
     text: &str,
 ) -> Result<ByteList, KeyFault>
-    ensures { Finds (λ line. line) (Shows way (kinds_in part schema.now) text.now) result }
+    ensures { Finds (λ line. line) (ShowsLine way (kinds_in part schema.now) text.now) result }
 {
     match way {
         KeyWay::Encode => encode(alloc, schema, part, text),

@@ -3,11 +3,11 @@ ghost use Rattle.std.specs.Prelude.{◌≡◌, Ok, IfOk};
 ghost use Rattle.key_types.specs.Kinds.{EachFits, kinds_of, values_of};
 ghost use Rattle.key_types.specs.Literals.{hex_digits, list_literal};
 ghost use Rattle.byte_comparable.specs.Encoding.{key_string};
-ghost use Rattle.byte_comparable.specs.Strings.{Answers, string_of};
-ghost use Rattle.key_decode.specs.Shapes.{DecodesAll, Refuses};
+ghost use Rattle.byte_comparable.specs.Strings.{AnswersString, string_of};
+ghost use Rattle.key_decode.specs.Shapes.{DecodesAll, RefusesBytes};
 ghost use Rattle.key_text.specs.Tokens.{AreHex};
 ghost use Rattle.key_tool.specs.Answers.{Finds};
-ghost use Rattle.key_tool.specs.Shown.{HasString, Spells, kinds_in, line_of};
+ghost use Rattle.key_tool.specs.Shown.{HasString, SpellsComponents, kinds_in, ended_line};
 
 use crate::request::{KeyFault, KeyPart};
 use byte_comparable::{KeyError, clustering_string, partition_string};
@@ -19,7 +19,7 @@ use std::alloc::Global;
 
 /// The components that the text spells.
 pub fn components_of(alloc: Global, kinds: &TypeList, text: &str) -> Result<ValueList, KeyFault>
-    ensures { Finds values_of (Spells (kinds_of kinds.now) text.now) result }
+    ensures { Finds values_of (SpellsComponents (kinds_of kinds.now) text.now) result }
 {
     match read_list(alloc, kinds, text.as_bytes()) {
         Ok(components) => Ok(components),
@@ -36,7 +36,7 @@ fn part_string(
     part: KeyPart,
     components: &ValueList,
 ) -> Result<KeyBytes, KeyError>
-    ensures { Answers result (string_of (kinds_in part schema.now) (values_of components.now)) }
+    ensures { AnswersString result (string_of (kinds_in part schema.now) (values_of components.now)) }
 {
     match part {
         KeyPart::Partition => partition_string(alloc, schema, components),
@@ -64,7 +64,7 @@ pub fn string_of(
 
 /// The bytes, and a line feed.
 fn ended(bytes: ByteList) -> Result<ByteList, NoMemory>
-    ensures { IfOk result (λ line. line ≡ line_of bytes) }
+    ensures { IfOk result (λ line. line ≡ ended_line bytes) }
 {
     let mut line = bytes;
     line.push(b'\n')?;
@@ -73,7 +73,7 @@ fn ended(bytes: ByteList) -> Result<ByteList, NoMemory>
 
 /// The bytes in lower hexadecimal, and a line feed.
 pub fn hex_line(alloc: Global, bytes: &[u8]) -> Result<ByteList, NoMemory>
-    ensures { IfOk result (λ line. line ≡ line_of (hex_digits bytes.now)) }
+    ensures { IfOk result (λ line. line ≡ ended_line (hex_digits bytes.now)) }
 {
     let digits = hex::encode(alloc, bytes)?;
     ended(ByteList::from_vec(digits.into_bytes()))
@@ -99,7 +99,7 @@ fn part_components(
 ) -> Result<ValueList, DecodeError>
     ensures exact { DecodesAll (kinds_in part schema.now) bytes.now result }
     ensures refused { let kinds = kinds_in part schema.now in
-        Refuses (key_string kinds) (EachFits kinds) bytes.now result }
+        RefusesBytes (key_string kinds) (EachFits kinds) bytes.now result }
 {
     match part {
         KeyPart::Partition => decode_partition(alloc, schema, bytes),
@@ -132,7 +132,7 @@ pub fn list_line(
     components: &ValueList,
 ) -> Result<ByteList, NoMemory>
     requires { EachFits (kinds_of kinds.now) (values_of components.now) }
-    ensures { IfOk result (λ line. line ≡ line_of (list_literal (kinds_of kinds.now) (values_of components.now))) }
+    ensures { IfOk result (λ line. line ≡ ended_line (list_literal (kinds_of kinds.now) (values_of components.now))) }
 {
     let mut list = ByteList::new(alloc);
     write_list(kinds, components, &mut list)?;

@@ -17,7 +17,11 @@ pub record Columns : Type 0 where
 abbrev pub columns_of : Schema → Columns
 columns_of s = record { partition = kinds_of s.partition; clustering = kinds_of s.clustering; value = s.value; static_value = s.static_value }
 
--- the bytes are a value of this type: at most 65,535 of them, and a text is UTF-8
+-- the greatest length of a value, in bytes
+abbrev pub longest_value : ℕ
+longest_value = 65535
+
+-- the bytes are a value of this type: they are not too many, and a text is UTF-8
 abbrev pub IsValueOf : ValueType → List ℕ → Type 0
-IsValueOf Text bytes = (length bytes ≤ 65535) × IsTrue (is_utf8 bytes)
-IsValueOf Blob bytes = length bytes ≤ 65535
+IsValueOf Text bytes = (length bytes ≤ longest_value) × IsTrue (is_utf8 bytes)
+IsValueOf Blob bytes = length bytes ≤ longest_value

@@ -1,3 +1,4 @@
+//! Types and values of key components. Contracts see them without pointers, as `specs/Kinds.antt` has them.
 ghost use Rattle.std.specs.Prelude.{◌≡◌, ◌↔◌, IsTrue, pos, negsuc};
 ghost use Rattle.std.specs.Str.{is_utf8};
 ghost use Rattle.key_types.specs.Kinds.{kind_of, kinds_of, value_of, values_of, Fits, EachFits, fits_by, all_fit_by, AreBytes, all_bytes, within, order_by, orders_by};

@@ -3,6 +3,7 @@
 
 mod bytes;
 mod kinds;
+mod laws;
 mod list;
 mod schema;
 #[cfg(test)]
@@ -10,5 +11,6 @@ mod tests;
 
 pub use bytes::{ByteList, KeyBytes, NoMemory, ValueBytes};
 pub use kinds::{ColType, TypeList, Value, ValueList, all_fit, compare, fits, is_text};
+pub use laws::{law_last_put, law_puts_over};
 pub use list::ListOf;
-pub use schema::{Schema, ValueType};
+pub use schema::{LONGEST_VALUE, Schema, ValueType};

@@ -1,7 +1,11 @@
+//! The columns of a table, which always keep the bounds on their lists.
 ghost use Rattle.std.specs.Prelude.{IsTrue};
 ghost use Rattle.key_types.specs.Layout.{is_layout};
 
 use crate::kinds::TypeList;
+
+/// The greatest length of a value, in bytes.
+pub const LONGEST_VALUE: usize = 65_535;
 
 /// The type of the values of a table.
 #[derive(Clone, Copy, Debug, PartialEq, Eq)]

@@ -1,3 +1,4 @@
+//! Vectors of which values fit, and of their order.
 use super::*;
 use std::alloc::Global;
 use std::cmp::Ordering;

@@ -4,3 +4,4 @@ pub mod Streams
 pub mod Script
 pub mod Files
 pub mod Memory
+pub mod Pages

@@ -1,3 +1,5 @@
+//! Sources and sinks over the readers and writers of std: the program makes them of its standard streams. They tell no
+//! contents, and each failure is counted.
 ghost use Rattle.std.specs.Prelude.{None};
 
 use crate::stream::{Failed, Sink, Source};

@@ -1,3 +1,4 @@
+//! The bytes of files by their ids, in order: the stores in memory hold them so.
 ghost use Rattle.std.specs.Prelude.{◌≡◌, ◌++◌, IfOk, OnOk, OnErr};
 
 use std::alloc::{AllocError, Global};

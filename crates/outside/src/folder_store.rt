@@ -1,3 +1,4 @@
+//! The store over a real folder, which the program makes: it tells no contents, and each failure is counted.
 ghost use Rattle.std.specs.Prelude.{◌≤◌, ◌<◌, ◌^◌, IfOk, IfSome, None, length};
 
 use crate::store::{FileId, Part, Store};

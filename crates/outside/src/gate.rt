@@ -1,3 +1,4 @@
+//! When a running thread may go on: a real program lets it at once, a test scripts it.
 /// What is called before each put and each read of a batch.
 pub trait Gate: Sync {
     fn before_put(&self, shard: u32, line: u32);

@@ -1,3 +1,4 @@
+//! A sink in memory with scripted failures, for tests: it tells what was written.
 ghost use Rattle.std.specs.Prelude.{◌≡◌, ◌⊎◌, ◌+◌, ◌-◌, ◌^◌, ◌<◌, ◌==◌, ◌++◌, if◌then◌else◌, length, min, take, Some, [], IfSome, IsErr, IsOk};
 ghost use Rattle.outside.specs.Causes.{HasCause};
 ghost use Rattle.outside.specs.Script.{kept_by};

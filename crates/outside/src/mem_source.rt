@@ -1,3 +1,4 @@
+//! A source in memory with scripted failures, for tests: it tells what is left.
 ghost use Rattle.std.specs.Prelude.{◌≡◌, ◌↔◌, ◌+◌, ◌-◌, ◌^◌, ◌<◌, ◌≤◌, length, min, Some, IfOk, IsErr, Contains};
 ghost use Rattle.outside.specs.Causes.{HasCause};
 ghost use Rattle.outside.specs.Streams.{Pulls};

@@ -1,3 +1,4 @@
+//! A store in memory with scripted failures, for tests: it tells its files.
 ghost use Rattle.std.specs.Prelude.{◌≡◌, ◌↔◌, ◌⊎◌, ◌+◌, ◌-◌, ◌^◌, ◌<◌, ◌≤◌, length, min, take, Some, IfOk, IfSome, IsErr, IsSome, OnOk, OnErr, option_map};
 ghost use Rattle.outside.specs.Causes.{HasCause};
 ghost use Rattle.outside.specs.Files.{Appends, KeepsFront, Reads, Sizes, bytes_of};

@@ -1,3 +1,4 @@
+//! The scripted failures of what stands in memory for the outside: which call fails, and how much it keeps.
 ghost use Rattle.std.specs.Prelude.{◌≡◌};
 ghost use Rattle.outside.specs.Script.{kept_by};
 

@@ -1,3 +1,4 @@
+//! Files by generation and part, and the trait of all stores of them, whose contract the crates above use.
 ghost use Rattle.std.specs.Prelude.{◌≡◌, ◌<◌, ◌≤◌, ◌^◌, ◌+◌, ◌-◌, length, List, ℕ, Option, IfOk, IsNone, ◌↔◌, min};
 ghost use Rattle.outside.specs.Causes.{HasCause};
 ghost use Rattle.outside.specs.Files.{file_cmp, place_of, Appends, Reads, Sizes};

@@ -1,9 +1,14 @@
+//! The traits of sources and sinks, whose contracts the crates above use: a failure is counted, and contents are told or
+//! not.
 ghost use Rattle.std.specs.Prelude.{◌<◌, ◌≤◌, ◌≡◌, length, List, ℕ, IfOk, IsOk, Option};
 ghost use Rattle.outside.specs.Streams.{Pulls, Pushes};
 ghost use Rattle.outside.specs.Causes.{HasCause};
 
+use thiserror::Error;
+
 /// A call to the outside that failed.
-#[derive(Clone, Copy, Debug, PartialEq, Eq)]
+#[derive(Clone, Copy, Debug, PartialEq, Eq, Error)]
+#[error("a call to the outside failed")]
 pub struct Failed;
 
 /// Where bytes come from.

@@ -1,3 +1,4 @@
+//! Vectors of the objects in memory, of the adapters and of a real folder.
 use super::*;
 use std::test::Fail as TestFail;
 

@@ -9,7 +9,7 @@ use Rattle.grammar.proofs.Tokens.{token_exact}
 use Rattle.grammar.proofs.Choices.{spaces_exact}
 use Rattle.grammar.proofs.Signs.{Heads, sign_exact, sign_heads, then_heads}
 use Rattle.key_types.specs.Columns.{Columns}
-use Rattle.schema_text.specs.Reading.{simple_at, tuple_by, closing_at, kind_by, no_close, listed, behind_by, base_at, types_at, is_semicolon, closed_at, clustering_at, value_at, static_at, columns, behind_partition, columns_at}
+use Rattle.schema_text.specs.Reading.{simple_at, tuple_by, type_closing_at, kind_by, no_types_close, listed, behind_by, base_at, types_at, is_semicolon, closed_at, clustering_at, value_type_at, static_type_at, columns, behind_partition, columns_at}
 use Rattle.schema_text.proofs.Relation.{IsBase, IsTypes, IsKindBy, IsClosing}
 use Rattle.schema_text.proofs.Exactly.{AfterKind, AfterKinds, Letter, token_letter, base_heads, base_exact, kind_exact, types_exact}
 
@@ -53,7 +53,7 @@ first_same test r s q (b ∷ bs) e = ap (λ g. cond (test b) (r (b ∷ bs)) g) e
 behind_same : (r s : Read Kinds) (t : Kind) (text : List ℕ) → ((rest : List ℕ) → length rest < length text → r rest ≡ s rest) → behind_by r t text ≡ behind_by s t text
 behind_same r s t text same =
     let further = ap (mapped Some) (sign_same 44 (omega arith) r s text same) in
-    ap (λ g. bind g (λ o. ends no_close (listed t o))) (perhaps_same 44 None (map_read Some (then_read (sign_at 44) (λ _. r))) (map_read Some (then_read (sign_at 44) (λ _. s))) text further)
+    ap (λ g. bind g (λ o. ends no_types_close (listed t o))) (perhaps_same 44 None (map_read Some (then_read (sign_at 44) (λ _. r))) (map_read Some (then_read (sign_at 44) (λ _. s))) text further)
 
 tuple_same : (r s : Read Kinds) (text : List ℕ) → ((rest : List ℕ) → length rest + 1 < length text → r rest ≡ s rest) → tuple_by r text ≡ tuple_by s text
 tuple_same r s text same = bind_same (token true (codes "tuple") text) (token true (codes "tuple") text) (λ _. opened r) (λ _. opened s) refl
@@ -92,7 +92,7 @@ mutual
   types_same (suc k) zero m text h f g = absurd (omega arith)
   types_same (suc k) (suc n) zero text h f g = absurd (omega arith)
   types_same (suc k) (suc n) (suc m) text h f g =
-      let kind : kind_by (base_at n) text ≡ kind_by (base_at m) text = ap (λ q. bind q (λ x. closing_at x.1 x.0)) (base_same k n m text (omega arith) (omega arith) (omega arith)) in
+      let kind : kind_by (base_at n) text ≡ kind_by (base_at m) text = ap (λ q. bind q (λ x. type_closing_at x.1 x.0)) (base_same k n m text (omega arith) (omega arith) (omega arith)) in
       bind_same (kind_by (base_at n) text) (kind_by (base_at m) text) (behind_by (types_at n)) (behind_by (types_at m)) kind
       (λ t rest e.
       let l = kind_shorter n text t rest e in
@@ -105,7 +105,7 @@ module _ (n m : ℕ) where
   clustering_same text h k = first_same is_semicolon (map_read (λ _. end) (sign_at 59)) (closed_at n) (closed_at m) text (ap (λ g. bind g (λ ts. map_read (λ _. ts) (sign_at 59))) (types_same (length text + 1) n m text (omega arith) (omega arith) (omega arith)))
 
   abbrev tail : Kinds → Kinds → Read Columns
-  tail p c = then_read value_at (λ v. map_read (λ f. columns p c v f) static_at)
+  tail p c = then_read value_type_at (λ v. map_read (λ f. columns p c v f) static_type_at)
 
   behind_partition_same : (p : Kinds) (text : List ℕ) → length text < n → length text < m → behind_partition n p text ≡ behind_partition m p text
   behind_partition_same p text h k =

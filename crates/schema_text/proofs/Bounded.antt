@@ -7,7 +7,7 @@ use Rattle.key_types.specs.Layout.{count_of, is_kind, are_kinds, is_layout_by}
 use Rattle.key_types.specs.Columns.{Columns}
 use Rattle.schema_text.specs.Bounds.{KeepsBounds, is_few, are_few, is_shallow, are_shallow, is_short, has_few, is_flat}
 use Rattle.schema_text.specs.Grammar.{IsType, AreTypes, IsSome}
-use Rattle.schema_text.specs.Parts.{AreColumns}
+use Rattle.schema_text.specs.Parts.{AreTextColumns}
 
 both : (a b : Bool) → (a && b) ≡ true → (a ≡ true) × (b ≡ true)
 both true b h = (refl, h)
@@ -48,7 +48,7 @@ some_count : (ts : Kinds) → IsSome ts → nat_le 1 (count_of ts) ≡ true
 some_count end h = absurd h
 some_count (more t ts) h = some (count_of ts)
 
-pub kept : (s : Columns) → AreColumns s → has_few s ≡ true → is_flat s ≡ true → is_layout_by s.partition s.clustering ≡ true
+pub kept : (s : Columns) → AreTextColumns s → has_few s ≡ true → is_flat s ≡ true → is_layout_by s.partition s.clustering ≡ true
 kept s h f g =
     let few = both (is_short s.partition) (is_short s.clustering) f in
     let p = both (nat_le (count_of s.partition) 8) (are_few s.partition) few.0 in
@@ -98,7 +98,7 @@ mutual
       let r = kinds_bounds ts depth p.1 in
       ((q.0, r.0), and (is_few t) (are_few ts) q.1 r.1, and (is_shallow t depth) (are_shallow ts depth) q.2 r.2)
 
-pub bounds : (s : Columns) → KeepsBounds s → AreColumns s × (has_few s ≡ true) × (is_flat s ≡ true)
+pub bounds : (s : Columns) → KeepsBounds s → AreTextColumns s × (has_few s ≡ true) × (is_flat s ≡ true)
 bounds s h =
     let a = both (nat_le 1 (count_of s.partition) && nat_le (count_of s.partition) 8 && nat_le (count_of s.clustering) 8 && are_kinds s.partition 4) (are_kinds s.clustering 4) h in
     let b = both (nat_le 1 (count_of s.partition) && nat_le (count_of s.partition) 8 && nat_le (count_of s.clustering) 8) (are_kinds s.partition 4) a.0 in

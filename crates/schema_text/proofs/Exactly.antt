@@ -13,30 +13,30 @@ use Rattle.grammar.proofs.Perhaps.{perhaps_exact}
 use Rattle.grammar.proofs.Tokens.{token_exact, token_heads, ends_exact}
 use Rattle.grammar.proofs.Choices.{AfterWord, one_of_exact}
 use Rattle.grammar.proofs.Signs.{sign_exact, next_exact, Heads, sign_heads, then_heads, map_heads, heads_begin, begins_as, empty_begins, HasText, sign_text, token_text, end_text, map_text, then_text}
-use Rattle.schema_text.specs.Reading.{simple_at, tuple_by, is_r, turn_at, turned, no_end, closing_at, kind_by, no_close, listed, more_by, behind_by, base_at, types_at}
+use Rattle.schema_text.specs.Reading.{simple_at, tuple_by, is_r, turn_at, type_with, no_type_end, type_closing_at, kind_by, no_types_close, listed, more_by, behind_by, base_at, types_at}
 use Rattle.schema_text.proofs.Relation.{first_type, other_types, IsSimple, IsTupleOf, IsTuple, IsTurn, IsClosing, IsKindBy, IsFurther, IsMoreBy, IsBehind, IsBase, IsTypes}
 
 -- ---- bytes
 
-end_space : (b : ℕ) → no_end b ≡ false → (b == 32) ≡ false
+end_space : (b : ℕ) → no_type_end b ≡ false → (b == 32) ≡ false
 end_space b h = grind (arith, nat_tests)
 
-end_letter : (b : ℕ) → no_end b ≡ false → is_letter b ≡ false
+end_letter : (b : ℕ) → no_type_end b ≡ false → is_letter b ≡ false
 end_letter b h = grind (arith, nat_tests)
 
-end_r : (b : ℕ) → no_end b ≡ false → is_r b ≡ false
+end_r : (b : ℕ) → no_type_end b ≡ false → is_r b ≡ false
 end_r b h = grind (arith, nat_tests)
 
-close_end : (b : ℕ) → no_close b ≡ false → no_end b ≡ false
+close_end : (b : ℕ) → no_types_close b ≡ false → no_type_end b ≡ false
 close_end b h = grind (arith, nat_tests)
 
-close_comma : (b : ℕ) → no_close b ≡ false → (b == 44) ≡ false
+close_comma : (b : ℕ) → no_types_close b ≡ false → (b == 44) ≡ false
 close_comma b h = grind (arith, nat_tests)
 
 letter_space : (b : ℕ) → is_letter b ≡ true → NoSpace b
 letter_space b h = grind (arith, nat_tests)
 
-pub gap_end : (s : Bool) (b : ℕ) → no_end b ≡ false → AfterGap true s b
+pub gap_end : (s : Bool) (b : ℕ) → no_type_end b ≡ false → AfterGap true s b
 gap_end true b h = end_space b h
 gap_end false b h = (end_space b h, end_letter b h)
 
@@ -99,19 +99,19 @@ turn_text : (s : Bool) → HasText (IsTurn s)
 turn_text true = (None, [], inr (refl, refl), tt)
 turn_text false = (None, [], (refl, refl), tt)
 
-turn_end : (o : Option Bool) (b : ℕ) → no_end b ≡ false → AfterTurn o b
+turn_end : (o : Option Bool) (b : ℕ) → no_type_end b ≡ false → AfterTurn o b
 turn_end None b h = end_r b h
 turn_end (Some s) b h = gap_end s b h
 
 -- ---- a type, from what it is made of
 
 abbrev pub AfterKind : Kind → ℕ → Type 0
-AfterKind _ b = no_end b ≡ false
+AfterKind _ b = no_type_end b ≡ false
 
-closing_exact : (x : Kind × Bool) → Exact (closing_at x.1 x.0) (IsClosing x) AfterKind
-closing_exact x = bind_exact (turn_at x.1) (λ o. ends no_end (turned o x.0)) (IsTurn x.1) (λ o. IsEnd (turned o x.0)) AfterTurn AfterKind
-    (turn_exact x.1) (λ o. ends_exact no_end (turned o x.0)) (λ o. end_text (turned o x.0))
-    (λ o k bytes rest is h. empty_begins (AfterTurn o) bytes rest is.1 (begins_as (λ b. no_end b ≡ false) (AfterTurn o) (turn_end o) rest h))
+closing_exact : (x : Kind × Bool) → Exact (type_closing_at x.1 x.0) (IsClosing x) AfterKind
+closing_exact x = bind_exact (turn_at x.1) (λ o. ends no_type_end (type_with o x.0)) (IsTurn x.1) (λ o. IsEnd (type_with o x.0)) AfterTurn AfterKind
+    (turn_exact x.1) (λ o. ends_exact no_type_end (type_with o x.0)) (λ o. end_text (type_with o x.0))
+    (λ o k bytes rest is h. empty_begins (AfterTurn o) bytes rest is.1 (begins_as (λ b. no_type_end b ≡ false) (AfterTurn o) (turn_end o) rest h))
 
 turn_begins : (s : Bool) (o : Option Bool) (front after : List ℕ) → IsTurn s o front → Begins (AfterGap true s) after → Begins (AfterGap true s) (front ++ after)
 turn_begins true o front after (inl is) h = let p = token_heads (codes "reversed") is.0 front is.1 in subst (λ (l : List ℕ). Begins (AfterGap true true) (l ++ after)) (sym p.1) refl
@@ -120,23 +120,23 @@ turn_begins false o front after is h = empty_begins (AfterGap true false) front 
 
 closing_begins : (x : Kind × Bool) (t : Kind) (bytes rest : List ℕ) → IsClosing x t bytes → Begins (AfterKind t) rest → Begins (AfterWord x) (bytes ++ rest)
 closing_begins x t bytes rest is h =
-    let ending = empty_begins (AfterWord x) is.2 rest is.4.1 (begins_as (λ b. no_end b ≡ false) (AfterWord x) (gap_end x.1) rest h) in
+    let ending = empty_begins (AfterWord x) is.2 rest is.4.1 (begins_as (λ b. no_type_end b ≡ false) (AfterWord x) (gap_end x.1) rest h) in
     subst (λ (l : List ℕ). Begins (AfterWord x) (l ++ rest)) (sym is.5)
     (subst (λ (l : List ℕ). Begins (AfterWord x) l) (sym (append_assoc is.1 is.2 rest)) (turn_begins x.1 is.0 is.1 (is.2 ++ rest) is.3 ending))
 
 pub kind_exact : (base : Read (Kind × Bool)) (Base : Kind × Bool → List ℕ → Type 0) → Exact base Base AfterWord → Exact (kind_by base) (IsKindBy Base) AfterKind
-kind_exact base Base one = bind_exact base (λ x. closing_at x.1 x.0) Base IsClosing AfterWord AfterKind
-    one closing_exact (λ x. then_text (IsTurn x.1) (λ o. IsEnd (turned o x.0)) (turn_text x.1) (λ o. end_text (turned o x.0))) closing_begins
+kind_exact base Base one = bind_exact base (λ x. type_closing_at x.1 x.0) Base IsClosing AfterWord AfterKind
+    one closing_exact (λ x. then_text (IsTurn x.1) (λ o. IsEnd (type_with o x.0)) (turn_text x.1) (λ o. end_text (type_with o x.0))) closing_begins
 
 -- ---- lists of types
 
 abbrev pub AfterKinds : Kinds → ℕ → Type 0
-AfterKinds _ b = no_close b ≡ false
+AfterKinds _ b = no_types_close b ≡ false
 
 -- what stands behind a further type
 abbrev AfterMore : Option Kinds → ℕ → Type 0
 AfterMore None b = (b == 44) ≡ false
-AfterMore (Some ts) b = no_close b ≡ false
+AfterMore (Some ts) b = no_types_close b ≡ false
 
 abbrev comma_then : Read Kinds → Read Kinds
 comma_then types = then_read (sign_at 44) (λ _. types)
@@ -152,7 +152,7 @@ more_exact types Types one heads some = perhaps_exact 44 None (map_read Some (co
     more_follow : (o : Option Kinds) (b : ℕ) (bytes : List ℕ) → IsFurther Types o bytes → AfterMore o b → AfterMore o b
     more_follow o b bytes is h = h
 
-more_end : (o : Option Kinds) (b : ℕ) → no_close b ≡ false → AfterMore o b
+more_end : (o : Option Kinds) (b : ℕ) → no_types_close b ≡ false → AfterMore o b
 more_end None b h = close_comma b h
 more_end (Some ts) b h = h
 
@@ -161,13 +161,13 @@ comma_begins t Types o front after (inl is) h = let w = is.1 in subst (λ (l : L
 comma_begins t Types o front after (inr is) h = empty_begins (AfterKind t) front after is.1 h
 
 behind_exact : (types : Read Kinds) (Types : Kinds → List ℕ → Type 0) (t : Kind) → Exact types Types AfterKinds → Heads Letter Types → HasText Types → Exact (behind_by types t) (IsBehind Types t) AfterKinds
-behind_exact types Types t one heads some = bind_exact (more_by types) (λ o. ends no_close (listed t o)) (IsMoreBy Types) (λ o. IsEnd (listed t o)) AfterMore AfterKinds
-    (more_exact types Types one heads some) (λ o. ends_exact no_close (listed t o)) (λ o. end_text (listed t o))
-    (λ o ks bytes rest is h. empty_begins (AfterMore o) bytes rest is.1 (begins_as (λ b. no_close b ≡ false) (AfterMore o) (more_end o) rest h))
+behind_exact types Types t one heads some = bind_exact (more_by types) (λ o. ends no_types_close (listed t o)) (IsMoreBy Types) (λ o. IsEnd (listed t o)) AfterMore AfterKinds
+    (more_exact types Types one heads some) (λ o. ends_exact no_types_close (listed t o)) (λ o. end_text (listed t o))
+    (λ o ks bytes rest is h. empty_begins (AfterMore o) bytes rest is.1 (begins_as (λ b. no_types_close b ≡ false) (AfterMore o) (more_end o) rest h))
 
 behind_begins : (Types : Kinds → List ℕ → Type 0) (t : Kind) (ts : Kinds) (bytes rest : List ℕ) → IsBehind Types t ts bytes → Begins (AfterKinds ts) rest → Begins (AfterKind t) (bytes ++ rest)
 behind_begins Types t ts bytes rest is h =
-    let ending = empty_begins (AfterKind t) is.2 rest is.4.1 (begins_as (λ b. no_close b ≡ false) (AfterKind t) close_end rest h) in
+    let ending = empty_begins (AfterKind t) is.2 rest is.4.1 (begins_as (λ b. no_types_close b ≡ false) (AfterKind t) close_end rest h) in
     subst (λ (l : List ℕ). Begins (AfterKind t) (l ++ rest)) (sym is.5)
     (subst (λ (l : List ℕ). Begins (AfterKind t) l) (sym (append_assoc is.1 is.2 rest)) (comma_begins t Types is.0 is.1 (is.2 ++ rest) is.3 ending))
 
@@ -179,10 +179,10 @@ kinds_exact : (kind : Read Kind) (AKind : Kind → List ℕ → Type 0) (types :
 kinds_exact kind AKind types Types one two heads some =
     bind_exact kind (behind_by types) AKind (IsBehind Types) AfterKind AfterKinds one (λ t. behind_exact types Types t two heads some) (behind_text Types) (behind_begins Types)
 
-last_exact : (kind : Read Kind) (AKind : Kind → List ℕ → Type 0) → Exact kind AKind AfterKind → Exact (then_read kind (λ t. ends no_close (more t end))) (Then AKind (λ t. IsEnd (more t end))) AfterKinds
-last_exact kind AKind one = bind_exact kind (λ t. ends no_close (more t end)) AKind (λ t. IsEnd (more t end)) AfterKind AfterKinds
-    one (λ t. ends_exact no_close (more t end)) (λ t. end_text (more t end))
-    (λ t ks bytes rest is h. empty_begins (AfterKind t) bytes rest is.1 (begins_as (λ b. no_close b ≡ false) (AfterKind t) close_end rest h))
+last_exact : (kind : Read Kind) (AKind : Kind → List ℕ → Type 0) → Exact kind AKind AfterKind → Exact (then_read kind (λ t. ends no_types_close (more t end))) (Then AKind (λ t. IsEnd (more t end))) AfterKinds
+last_exact kind AKind one = bind_exact kind (λ t. ends no_types_close (more t end)) AKind (λ t. IsEnd (more t end)) AfterKind AfterKinds
+    one (λ t. ends_exact no_types_close (more t end)) (λ t. end_text (more t end))
+    (λ t ks bytes rest is h. empty_begins (AfterKind t) bytes rest is.1 (begins_as (λ b. no_types_close b ≡ false) (AfterKind t) close_end rest h))
 
 -- ---- tuples
 
@@ -208,7 +208,7 @@ module _ (types : Read Kinds) (Types : Kinds → List ℕ → Type 0) (one : Exa
 
   inside_exact : Exact inside IsInside AfterWord
   inside_exact = bind_exact types tuple_of Types IsTupleOf AfterKinds AfterWord one tuple_of_exact tuple_of_text
-      (λ ts x bytes rest is h. heads_begin (λ b. no_close b ≡ false) (IsTupleOf ts) (map_heads (λ b. no_close b ≡ false) (λ _. (tuple ts, true)) (IsSign 62) (sign_heads 62 (λ b. no_close b ≡ false) refl)) x bytes rest is)
+      (λ ts x bytes rest is h. heads_begin (λ b. no_types_close b ≡ false) (IsTupleOf ts) (map_heads (λ b. no_types_close b ≡ false) (λ _. (tuple ts, true)) (IsSign 62) (sign_heads 62 (λ b. no_types_close b ≡ false) refl)) x bytes rest is)
 
   inside_text : HasText IsInside
   inside_text = then_text Types IsTupleOf some tuple_of_text
@@ -243,7 +243,7 @@ base_text zero = simple_text
 base_text (suc fuel) = (simple_text.0, simple_text.1, inl simple_text.2, simple_text.3)
 
 closing_text : (x : Kind × Bool) → HasText (IsClosing x)
-closing_text x = then_text (IsTurn x.1) (λ o. IsEnd (turned o x.0)) (turn_text x.1) (λ o. end_text (turned o x.0))
+closing_text x = then_text (IsTurn x.1) (λ o. IsEnd (type_with o x.0)) (turn_text x.1) (λ o. end_text (type_with o x.0))
 
 pub types_text : (fuel : ℕ) → HasText (IsTypes fuel)
 types_text zero = then_text (IsKindBy IsSimple) (λ t. IsEnd (more t end)) (then_text IsSimple IsClosing simple_text closing_text) (λ t. end_text (more t end))

@@ -5,7 +5,7 @@ use Rattle.std.proofs.lemmas.List.{append-nil}
 use Rattle.key_types.specs.Kinds.{Kind, tiny, small, int, big, text, blob, boolean, tuple, reversed, Kinds, end, more}
 use Rattle.grammar.specs.Reading.{IsWord, IsSign, IsToken}
 use Rattle.schema_text.specs.Grammar.{Token, word, sign, type_tokens, list_tokens, IsType, AreTypes, IsSome}
-use Rattle.schema_text.specs.Reading.{turned, listed}
+use Rattle.schema_text.specs.Reading.{type_with, listed}
 use Rattle.schema_text.proofs.Relation.{IsSimple, IsTuple, IsTurn, IsClosing, IsKindBy, IsBehind, IsBase, IsTypes}
 use Rattle.schema_text.proofs.Spelled.{Before, NoWord, Open, no_word_open, join, split, word_before, word_back, sign_before, sign_back}
 
@@ -72,17 +72,17 @@ closing_typed (u, true) front bytes t next base (o, turn, rest, inl is, ended, e
     let p = base (word (codes "reversed") ∷ next) tt in
     let all : bytes ≡ turn = e ∙ ap (λ l. turn ++ l) ended.1 ∙ append-nil turn in
     let both = join next (type_tokens u) (word (codes "reversed") ∷ []) front turn p.1 (word_before (codes "reversed") is.0 turn next is.1 (no_word_open is.0 next none)) in
-    let kind : t ≡ reversed u = ended.0 ∙ ap (λ q. turned q u) is.2 in
+    let kind : t ≡ reversed u = ended.0 ∙ ap (λ q. type_with q u) is.2 in
     subst (λ (k : Kind). Typed next k (front ++ bytes)) (sym kind) (p.0, subst (λ (l : List ℕ). Before next (type_tokens (reversed u)) (front ++ l)) (sym all) both)
 closing_typed (u, true) front bytes t next base (o, turn, rest, inr is, ended, e) none =
     let p = base next tt in
     let all : bytes ≡ [] = e ∙ ap (λ l. l ++ rest) is.1 ∙ ended.1 in
-    let kind : t ≡ u = ended.0 ∙ ap (λ q. turned q u) is.0 in
+    let kind : t ≡ u = ended.0 ∙ ap (λ q. type_with q u) is.0 in
     subst (λ (k : Kind). Typed next k (front ++ bytes)) (sym kind) (plain_type u p.0, subst (Before next (type_tokens u)) (sym (ap (λ l. front ++ l) all ∙ append-nil front)) p.1)
 closing_typed (u, false) front bytes t next base (o, turn, rest, is, ended, e) none =
     let p = base next none in
     let all : bytes ≡ [] = e ∙ ap (λ l. l ++ rest) is.1 ∙ ended.1 in
-    let kind : t ≡ u = ended.0 ∙ ap (λ q. turned q u) is.0 in
+    let kind : t ≡ u = ended.0 ∙ ap (λ q. type_with q u) is.0 in
     subst (λ (k : Kind). Typed next k (front ++ bytes)) (sym kind) (plain_type u p.0, subst (Before next (type_tokens u)) (sym (ap (λ l. front ++ l) all ∙ append-nil front)) p.1)
 
 kind_typed : (Base : Kind × Bool → List ℕ → Type 0) → ((a : Kind × Bool) (bytes : List ℕ) (next : List Token) → Base a bytes → Open a.1 next → Based next a.0 bytes)

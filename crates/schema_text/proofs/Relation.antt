@@ -6,7 +6,7 @@ use Rattle.key_types.specs.declared.schema.ValueType.TheVariants.{Text, Blob}
 use Rattle.key_types.specs.Kinds.{Kind, tiny, small, int, big, text, blob, boolean, tuple, Kinds, end, more}
 use Rattle.grammar.specs.Reading.{Then, Either, Perhaps, Mapped, IsEnd, IsOneOf, IsToken, IsSign, AreSpaces}
 use Rattle.key_types.specs.Columns.{Columns}
-use Rattle.schema_text.specs.Reading.{turned, listed, columns}
+use Rattle.schema_text.specs.Reading.{type_with, listed, columns}
 
 abbrev pub first_type : List ℕ × Kind
 first_type = (codes "tinyint", tiny)
@@ -28,7 +28,7 @@ IsTurn true = Perhaps None (Mapped Some (IsToken (codes "reversed")))
 IsTurn false = IsEnd None
 
 abbrev pub IsClosing : Kind × Bool → Kind → List ℕ → Type 0
-IsClosing x = Then (IsTurn x.1) (λ o. IsEnd (turned o x.0))
+IsClosing x = Then (IsTurn x.1) (λ o. IsEnd (type_with o x.0))
 
 abbrev pub IsKindBy : (Kind × Bool → List ℕ → Type 0) → Kind → List ℕ → Type 0
 IsKindBy Base = Then Base IsClosing

@@ -8,8 +8,8 @@ use Rattle.schema_text.specs.Bounds.{has_few, is_flat, KeepsBounds}
 use Rattle.schema_text.specs.Grammar.{IsSchemaText}
 use Rattle.schema_text.specs.Canonical.{canonical}
 use Rattle.schema_text.specs.Parts.{Bounded}
-use Rattle.schema_text.specs.Answers.{Parses, Reads}
-use Rattle.schema_text.specs.Laws.{IsRead}
+use Rattle.schema_text.specs.Answers.{Parses, ReadsSchemaText}
+use Rattle.schema_text.specs.Laws.{IsSchemaRead}
 use Rattle.schema_text.proofs.Bounded.{bounds}
 use Rattle.schema_text.proofs.Parsed.{Whole, all}
 use Rattle.schema_text.proofs.Written.{canonical_text}
@@ -37,7 +37,7 @@ parsed bytes s (Err (error.TooLong n)) is h = absurd h
 parsed bytes s (Err error.NoMemory) is h = tt
 
 -- a text of a schema is read as that schema
-pub read_as : (s : Columns) (bytes : List ℕ) (result : Result Schema SchemaError) → KeepsBounds s → IsSchemaText s bytes → Parses bytes result → IsRead s result
+pub read_as : (s : Columns) (bytes : List ℕ) (result : Result Schema SchemaError) → KeepsBounds s → IsSchemaText s bytes → Parses bytes result → IsSchemaRead s result
 read_as s bytes (Ok r) h is p = one (columns_of r) s bytes p is
 read_as s bytes (Err (error.BadText at)) h is p = p.0 s is
 read_as s bytes (Err error.TooMany) h is p = apart (has_few s) (bounds s h).1 (ap has_few (one s p.0 bytes is p.1) ∙ p.2)
@@ -45,7 +45,7 @@ read_as s bytes (Err error.TooDeep) h is p = apart (is_flat s) (bounds s h).2 (a
 read_as s bytes (Err (error.TooLong n)) h is p = p
 read_as s bytes (Err error.NoMemory) h is p = tt
 
-pub read_back : (s : Columns) (result : Result Schema SchemaError) → KeepsBounds s → length (canonical s) ≤ 2000 → Reads (canonical s) result → IsRead s result
+pub read_back : (s : Columns) (result : Result Schema SchemaError) → KeepsBounds s → length (canonical s) ≤ 2000 → ReadsSchemaText (canonical s) result → IsSchemaRead s result
 read_back s (Ok r) h k p = read_as s (canonical s) (Ok r) h (written s h) p.1
 read_back s (Err (error.BadText at)) h k p = read_as s (canonical s) (Err (error.BadText at)) h (written s h) p.1
 read_back s (Err error.TooMany) h k p = read_as s (canonical s) (Err error.TooMany) h (written s h) p.1

@@ -14,7 +14,7 @@ use Rattle.grammar.proofs.Tokens.{ends_exact}
 use Rattle.grammar.proofs.Choices.{AfterWord, one_of_exact, spaces_exact}
 use Rattle.grammar.proofs.Signs.{sign_exact, next_exact, Heads, sign_heads, then_heads, map_heads, heads_begin, begins_as, empty_begins, HasText, sign_text, token_text, end_text, map_text, then_text}
 use Rattle.key_types.specs.Columns.{Columns}
-use Rattle.schema_text.specs.Reading.{no_end, no_close, types_at, is_semicolon, closed_at, clustering_at, value_word_at, value_at, static_at, columns, behind_partition, columns_at}
+use Rattle.schema_text.specs.Reading.{no_type_end, no_types_close, types_at, is_semicolon, closed_at, clustering_at, value_word_at, value_type_at, static_type_at, columns, behind_partition, columns_at}
 use Rattle.schema_text.proofs.Relation.{first_value, other_values, IsValue, IsLast, IsStaticValue, IsStatic, IsClosed, IsClustering, IsTypes, IsEnding, IsBehindPartition, IsColumns}
 use Rattle.schema_text.proofs.Exactly.{gap_end, Letter, as_letters, AfterKinds, token_letter, types_heads, types_text, types_exact}
 
@@ -24,12 +24,12 @@ letter_semicolon b h = grind (arith, nat_tests)
 -- ---- value types
 
 abbrev AfterValue : ValueType → ℕ → Type 0
-AfterValue _ b = no_end b ≡ false
+AfterValue _ b = no_type_end b ≡ false
 
-value_exact : Exact value_at IsValue AfterValue
-value_exact = bind_exact value_word_at (λ x. ends no_end x.0) (IsOneOf first_value other_values) (λ x. IsEnd x.0) AfterWord AfterValue
-    (one_of_exact first_value other_values (are_bytes (codes "text") refl, are_bytes (codes "blob") refl) refl) (λ x. ends_exact no_end x.0) (λ x. end_text x.0)
-    (λ x v bytes rest is h. empty_begins (AfterWord x) bytes rest is.1 (begins_as (λ b. no_end b ≡ false) (AfterWord x) (gap_end x.1) rest h))
+value_exact : Exact value_type_at IsValue AfterValue
+value_exact = bind_exact value_word_at (λ x. ends no_type_end x.0) (IsOneOf first_value other_values) (λ x. IsEnd x.0) AfterWord AfterValue
+    (one_of_exact first_value other_values (are_bytes (codes "text") refl, are_bytes (codes "blob") refl) refl) (λ x. ends_exact no_type_end x.0) (λ x. end_text x.0)
+    (λ x v bytes rest is h. empty_begins (AfterWord x) bytes rest is.1 (begins_as (λ b. no_type_end b ≡ false) (AfterWord x) (gap_end x.1) rest h))
 
 value_word_heads : Heads Letter (IsOneOf first_value other_values)
 value_word_heads a bytes (inl is) = token_letter 116 (codes "ext") refl is.0 bytes is.1
@@ -58,14 +58,14 @@ last_heads : (Holds : ℕ → Type 0) → Holds 41 → (f : Option ValueType) �
 last_heads Holds h f = map_heads Holds (λ _. f) (IsSign 41) (sign_heads 41 Holds h)
 
 abbrev typed_at : Read (Option ValueType)
-typed_at = then_read value_at (λ v. last_at (Some v))
+typed_at = then_read value_type_at (λ v. last_at (Some v))
 
 abbrev IsTyped : Option ValueType → List ℕ → Type 0
 IsTyped = Then IsValue (λ v. IsLast (Some v))
 
 typed_exact : Exact typed_at IsTyped (λ _. NoSpace)
-typed_exact = bind_exact value_at (λ v. last_at (Some v)) IsValue (λ v. IsLast (Some v)) AfterValue (λ _. NoSpace) value_exact (λ v. last_exact (Some v)) (λ v. last_text (Some v))
-    (λ v f bytes rest is h. heads_begin (λ b. no_end b ≡ false) (IsLast (Some v)) (last_heads (λ b. no_end b ≡ false) refl (Some v)) f bytes rest is)
+typed_exact = bind_exact value_type_at (λ v. last_at (Some v)) IsValue (λ v. IsLast (Some v)) AfterValue (λ _. NoSpace) value_exact (λ v. last_exact (Some v)) (λ v. last_text (Some v))
+    (λ v f bytes rest is h. heads_begin (λ b. no_type_end b ≡ false) (IsLast (Some v)) (last_heads (λ b. no_type_end b ≡ false) refl (Some v)) f bytes rest is)
 
 static_value_exact : Exact (then_read (sign_at 59) (λ _. typed_at)) IsStaticValue (λ _. NoSpace)
 static_value_exact = next_exact (sign_at 59) (λ _. typed_at) (IsSign 59) (λ _. IsTyped) (λ _. NoSpace) (sign_exact 59 (omega arith)) (λ _. typed_exact)
@@ -80,7 +80,7 @@ static_value_text = then_text (IsSign 59) (λ _. IsTyped) (sign_text 59 (omega a
 pub viable_text : {A : Type 0} (Is : A → List ℕ → Type 0) → HasText Is → Viable Is []
 viable_text Is h = (h.1, h.0, h.2, h.3)
 
-static_exact : Exact static_at IsStatic (λ _. NoSpace)
+static_exact : Exact static_type_at IsStatic (λ _. NoSpace)
 static_exact = first_exact is_semicolon (then_read (sign_at 59) (λ _. typed_at)) (last_at None) IsStaticValue (IsLast None) (λ _. NoSpace) static_value_exact (last_exact None)
     (static_value_heads (λ b. is_semicolon b ≡ true) refl) (last_heads (λ b. is_semicolon b ≡ false) refl None) (viable_text IsStaticValue static_value_text)
 
@@ -107,7 +107,7 @@ close_heads Holds h ts = map_heads Holds (λ _. ts) (IsSign 59) (sign_heads 59 H
 
 closed_exact : (fuel : ℕ) → Exact (closed_at fuel) (Then (IsTypes fuel) IsClosed) (λ _. NoSpace)
 closed_exact fuel = bind_exact (types_at fuel) close_at (IsTypes fuel) IsClosed AfterKinds (λ _. NoSpace) (types_exact fuel) close_exact close_text
-    (λ ts us bytes rest is h. heads_begin (λ b. no_close b ≡ false) (IsClosed ts) (close_heads (λ b. no_close b ≡ false) refl ts) us bytes rest is)
+    (λ ts us bytes rest is h. heads_begin (λ b. no_types_close b ≡ false) (IsClosed ts) (close_heads (λ b. no_types_close b ≡ false) refl ts) us bytes rest is)
 
 pub closed_heads : (fuel : ℕ) → Heads Letter (Then (IsTypes fuel) IsClosed)
 closed_heads fuel = then_heads Letter (IsTypes fuel) IsClosed (types_heads fuel)
@@ -133,30 +133,30 @@ After _ b = NoSpace b
 
 module _ (fuel : ℕ) (p : Kinds) where
   abbrev ending_at : Kinds → ValueType → Read Columns
-  ending_at c v = map_read (λ f. columns p c v f) static_at
+  ending_at c v = map_read (λ f. columns p c v f) static_type_at
 
   ending_exact : (c : Kinds) (v : ValueType) → Exact (ending_at c v) (IsEnding p c v) After
-  ending_exact c v = map_exact (λ f. columns p c v f) static_at IsStatic (λ _. NoSpace) After static_exact (λ s b h. h) (λ s b h. h)
+  ending_exact c v = map_exact (λ f. columns p c v f) static_type_at IsStatic (λ _. NoSpace) After static_exact (λ s b h. h) (λ s b h. h)
 
   ending_text : (c : Kinds) (v : ValueType) → HasText (IsEnding p c v)
   ending_text c v = map_text (λ f. columns p c v f) IsStatic static_text
 
-  valued_exact : (c : Kinds) → Exact (then_read value_at (ending_at c)) (Then IsValue (IsEnding p c)) After
-  valued_exact c = bind_exact value_at (ending_at c) IsValue (IsEnding p c) AfterValue After value_exact (ending_exact c) (ending_text c)
-      (λ v s bytes rest is h. heads_begin (λ b. no_end b ≡ false) (IsEnding p c v)
-      (map_heads (λ b. no_end b ≡ false) (λ f. columns p c v f) IsStatic (static_heads (λ b. no_end b ≡ false) refl refl)) s bytes rest is)
+  valued_exact : (c : Kinds) → Exact (then_read value_type_at (ending_at c)) (Then IsValue (IsEnding p c)) After
+  valued_exact c = bind_exact value_type_at (ending_at c) IsValue (IsEnding p c) AfterValue After value_exact (ending_exact c) (ending_text c)
+      (λ v s bytes rest is h. heads_begin (λ b. no_type_end b ≡ false) (IsEnding p c v)
+      (map_heads (λ b. no_type_end b ≡ false) (λ f. columns p c v f) IsStatic (static_heads (λ b. no_type_end b ≡ false) refl refl)) s bytes rest is)
 
   valued_text : (c : Kinds) → HasText (Then IsValue (IsEnding p c))
   valued_text c = then_text IsValue (IsEnding p c) value_text (ending_text c)
 
   abbrev clustered_at : Read Columns
-  clustered_at = then_read (clustering_at fuel) (λ c. then_read value_at (ending_at c))
+  clustered_at = then_read (clustering_at fuel) (λ c. then_read value_type_at (ending_at c))
 
   abbrev IsClustered : Columns → List ℕ → Type 0
   IsClustered = Then (IsClustering fuel) (λ c. Then IsValue (IsEnding p c))
 
   clustered_exact : Exact clustered_at IsClustered After
-  clustered_exact = next_exact (clustering_at fuel) (λ c. then_read value_at (ending_at c)) (IsClustering fuel) (λ c. Then IsValue (IsEnding p c)) After (clustering_exact fuel) valued_exact valued_text
+  clustered_exact = next_exact (clustering_at fuel) (λ c. then_read value_type_at (ending_at c)) (IsClustering fuel) (λ c. Then IsValue (IsEnding p c)) After (clustering_exact fuel) valued_exact valued_text
       (λ c. then_heads NoSpace IsValue (IsEnding p c) (as_letters IsValue value_heads))
 
   clustered_text : HasText IsClustered
@@ -178,8 +178,8 @@ module _ (fuel : ℕ) where
 
   opened_exact : Exact opened_at IsOpened After
   opened_exact = bind_exact (types_at fuel) (behind_partition fuel) (IsTypes fuel) (IsBehindPartition fuel) AfterKinds After (types_exact fuel) (behind_partition_exact fuel) (behind_partition_text fuel)
-      (λ p s bytes rest is h. heads_begin (λ b. no_close b ≡ false) (IsBehindPartition fuel p)
-      (then_heads (λ b. no_close b ≡ false) (IsSign 59) (λ _. IsClustered fuel p) (sign_heads 59 (λ b. no_close b ≡ false) refl)) s bytes rest is)
+      (λ p s bytes rest is h. heads_begin (λ b. no_types_close b ≡ false) (IsBehindPartition fuel p)
+      (then_heads (λ b. no_types_close b ≡ false) (IsSign 59) (λ _. IsClustered fuel p) (sign_heads 59 (λ b. no_types_close b ≡ false) refl)) s bytes rest is)
 
   opened_text : HasText IsOpened
   opened_text = then_text (IsTypes fuel) (IsBehindPartition fuel) (types_text fuel) (behind_partition_text fuel)

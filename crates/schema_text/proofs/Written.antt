@@ -8,7 +8,7 @@ use Rattle.key_types.specs.Kinds.{Kind, tiny, small, int, big, text, blob, boole
 use Rattle.key_types.specs.Columns.{Columns}
 use Rattle.schema_text.specs.Grammar.{Token, word, sign, type_tokens, list_tokens, value_token, static_tokens, column_tokens, IsSchemaText}
 use Rattle.schema_text.specs.Canonical.{type_text, types_text, value_text, static_text, values_text, canonical}
-use Rattle.schema_text.specs.Parts.{AreColumns}
+use Rattle.schema_text.specs.Parts.{AreTextColumns}
 use Rattle.schema_text.proofs.Spelled.{Before, NoWord, join, may_stand, before_spelled}
 
 -- so many spaces may stand before these where a word stands before the spaces
@@ -113,7 +113,7 @@ module _ (s : Columns) where
       ∙ append_assoc (codes "(" ++ types_text s.partition) (codes "; ") (types_text s.clustering ++ values_text s)
       ∙ ap (λ l. 40 ∷ (types_text s.partition ++ 59 ∷ 32 ∷ (types_text s.clustering ++ 59 ∷ 32 ∷ l))) (append_assoc (value_text s.value) (static_text s.static_value) (codes ")"))
 
-  pub canonical_text : AreColumns s → IsSchemaText s (canonical s)
+  pub canonical_text : AreTextColumns s → IsSchemaText s (canonical s)
   canonical_text h = record {
     some = h.0;
     partition = h.1;

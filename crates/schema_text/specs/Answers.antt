@@ -24,10 +24,10 @@ Parses bytes (Err (error.TooLong count)) = ⊥
 Parses bytes (Err error.NoMemory) = Unit {0}
 
 -- the same where a text of over 2,000 bytes is refused first
-abbrev pub Reads : List ℕ → Result Schema SchemaError → Type 0
-Reads bytes (Err (error.TooLong count)) = (count ≡ length bytes) × (2000 < length bytes)
-Reads bytes (Err error.NoMemory) = Unit {0}
-Reads bytes result = (length bytes ≤ 2000) × Parses bytes result
+abbrev pub ReadsSchemaText : List ℕ → Result Schema SchemaError → Type 0
+ReadsSchemaText bytes (Err (error.TooLong count)) = (count ≡ length bytes) × (2000 < length bytes)
+ReadsSchemaText bytes (Err error.NoMemory) = Unit {0}
+ReadsSchemaText bytes result = (length bytes ≤ 2000) × Parses bytes result
 
 -- the schema whose canonical text of at most 4,000 bytes this is, or none where it is of no schema
 abbrev pub ReadsCanonical : List ℕ → Result (Option Schema) NoMemory → Type 0

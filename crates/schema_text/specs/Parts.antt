@@ -10,12 +10,12 @@ use Rattle.schema_text.specs.Bounds.{has_few, is_flat}
 use Rattle.schema_text.specs.Grammar.{IsSome, AreTypes}
 
 -- the columns that the parts in memory stand for
-abbrev pub parts_of : Parts → Columns
-parts_of p = record { partition = kinds_of p.partition; clustering = kinds_of p.clustering; value = p.value; static_value = p.static_value }
+abbrev pub columns_of_parts : Parts → Columns
+columns_of_parts p = record { partition = kinds_of p.partition; clustering = kinds_of p.clustering; value = p.value; static_value = p.static_value }
 
 -- what every text of the grammar keeps
-abbrev pub AreColumns : Columns → Type 0
-AreColumns s = IsSome s.partition × AreTypes s.partition × AreTypes s.clustering
+abbrev pub AreTextColumns : Columns → Type 0
+AreTextColumns s = IsSome s.partition × AreTypes s.partition × AreTypes s.clustering
 
 -- the schema of the columns, or the first bound that they pass
 abbrev pub Bounded : Columns → Result Schema SchemaError → Type 0

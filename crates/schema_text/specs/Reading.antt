@@ -29,25 +29,25 @@ turn_at true = perhaps 114 None (map_read Some (token true (codes "reversed")))
 turn_at false = ends is_r None
 
 -- the type, or the reversed one where `reversed` was read
-abbrev pub turned : Option Bool → Kind → Kind
-turned None t = t
-turned (Some s) t = reversed t
+abbrev pub type_with : Option Bool → Kind → Kind
+type_with None t = t
+type_with (Some s) t = reversed t
 
 -- behind a type stands `,`, `;`, `>` or `)`
-abbrev pub no_end : ℕ → Bool
-no_end b = not (b == 44 || b == 59 || b == 62 || b == 41)
+abbrev pub no_type_end : ℕ → Bool
+no_type_end b = not (b == 44 || b == 59 || b == 62 || b == 41)
 
 -- what stands behind a type, up to its end
-abbrev pub closing_at : Bool → Kind → Read Kind
-closing_at s t = then_read (turn_at s) (λ o. ends no_end (turned o t))
+abbrev pub type_closing_at : Bool → Kind → Read Kind
+type_closing_at s t = then_read (turn_at s) (λ o. ends no_type_end (type_with o t))
 
 -- a type, without `reversed` read so
 abbrev pub kind_by : Read (Kind × Bool) → Read Kind
-kind_by base = then_read base (λ x. closing_at x.1 x.0)
+kind_by base = then_read base (λ x. type_closing_at x.1 x.0)
 
 -- behind types stands `;`, `>` or `)`
-abbrev pub no_close : ℕ → Bool
-no_close b = not (b == 59 || b == 62 || b == 41)
+abbrev pub no_types_close : ℕ → Bool
+no_types_close b = not (b == 59 || b == 62 || b == 41)
 
 -- a type and those behind it, where there are some
 abbrev pub listed : Kind → Option Kinds → Kinds
@@ -65,7 +65,7 @@ more_by types = perhaps 44 None (map_read Some (then_read (sign_at 44) (λ _. ty
 
 -- what stands behind a type of a list, up to the end of the list
 abbrev pub behind_by : Read Kinds → Kind → Read Kinds
-behind_by types t = then_read (more_by types) (λ o. ends no_close (listed t o))
+behind_by types t = then_read (more_by types) (λ o. ends no_types_close (listed t o))
 
 -- the fuel falls at each tuple and at each comma
 abbrev mutual
@@ -74,7 +74,7 @@ abbrev mutual
   base_at (suc fuel) = either simple_at (tuple_by (types_at fuel))
 
   pub types_at : ℕ → Read Kinds
-  types_at zero = then_read (kind_by simple_at) (λ t. ends no_close (more t end))
+  types_at zero = then_read (kind_by simple_at) (λ t. ends no_types_close (more t end))
   types_at (suc fuel) = then_read (kind_by (base_at fuel)) (behind_by (types_at fuel))
 
 -- the sign between two lists
@@ -94,14 +94,14 @@ abbrev pub value_word_at : Read (ValueType × Bool)
 value_word_at = one_of (codes "text", Text) ((codes "blob", Blob) ∷ [])
 
 -- a value type, and what may stand behind it
-abbrev pub value_at : Read ValueType
-value_at = then_read value_word_at (λ x. ends no_end x.0)
+abbrev pub value_type_at : Read ValueType
+value_type_at = then_read value_word_at (λ x. ends no_type_end x.0)
 
 -- perhaps a static value type behind a semicolon, and the last sign
-abbrev pub static_at : Read (Option ValueType)
-static_at =
+abbrev pub static_type_at : Read (Option ValueType)
+static_type_at =
     by_first is_semicolon
-    (then_read (sign_at 59) (λ _. then_read value_at (λ v. map_read (λ _. Some v) (sign_at 41))))
+    (then_read (sign_at 59) (λ _. then_read value_type_at (λ v. map_read (λ _. Some v) (sign_at 41))))
     (map_read (λ _. None) (sign_at 41))
 
 -- these columns
@@ -111,7 +111,7 @@ columns partition clustering value static_value = record { partition = partition
 -- what is read behind the partition types
 abbrev pub behind_partition : ℕ → Kinds → Read Columns
 behind_partition fuel p =
-    then_read (sign_at 59) (λ _. then_read (clustering_at fuel) (λ c. then_read value_at (λ v. map_read (λ f. columns p c v f) static_at)))
+    then_read (sign_at 59) (λ _. then_read (clustering_at fuel) (λ c. then_read value_type_at (λ v. map_read (λ f. columns p c v f) static_type_at)))
 
 -- the columns of a text, behind spaces
 abbrev pub columns_at : ℕ → Read Columns

@@ -1,3 +1,4 @@
+//! The bounds on the lists of a schema, as tests.
 ghost use Rattle.std.specs.Prelude.{◌≡◌, nat_le};
 ghost use Rattle.key_types.specs.Kinds.{kind_of, kinds_of};
 ghost use Rattle.key_types.specs.Layout.{count_of};

@@ -1,3 +1,4 @@
+//! What holds of the texts of schemas.
 ghost use Rattle.schema_text.specs.Laws.{SchemaTexts};
 
 /// What is written of a schema is a text of it, a text is of at most one schema, so what is written is read back as the same schema; and what is written is at

@@ -1,10 +1,11 @@
+//! Schemas from their texts: those that a user gives, and the canonical one that a file holds.
 ghost use Rattle.std.specs.Prelude.{◌≡◌, ◌+◌, ℕ, List, length, Err, IfOk, IsTrue, ◌↔◌};
 ghost use Rattle.grammar.specs.Code.{Gives};
 ghost use Rattle.grammar.specs.Reading.{whole, by_first};
 ghost use Rattle.key_types.specs.Kinds.{kinds_of};
-ghost use Rattle.schema_text.specs.Parts.{parts_of, AreColumns, Bounded};
+ghost use Rattle.schema_text.specs.Parts.{columns_of_parts, AreTextColumns, Bounded};
 ghost use Rattle.schema_text.specs.Reading.{closed_at, clustering_at, columns_at};
-ghost use Rattle.schema_text.specs.Answers.{Parses, Reads, ReadsCanonical};
+ghost use Rattle.schema_text.specs.Answers.{Parses, ReadsSchemaText, ReadsCanonical};
 ghost use Rattle.key_types.specs.Columns.{columns_of};
 ghost use Rattle.schema_text.specs.Bounds.{has_few, is_flat};
 ghost use Rattle.schema_text.specs.Canonical.{canonical};
@@ -16,19 +17,25 @@ use crate::writing::write_schema;
 use grammar::{Stop, read_sign, skip_spaces};
 use key_types::{ByteList, NoMemory, Schema, TypeList, ValueType};
 use std::alloc::Global;
+use thiserror::Error;
 
 /// Why a text is refused as one of a schema.
-#[derive(Clone, Copy, Debug, PartialEq, Eq)]
+#[derive(Clone, Copy, Debug, PartialEq, Eq, Error)]
 pub enum SchemaError {
     /// It isn't of the grammar: so many bytes are its longest prefix that begins a text of the grammar.
+    #[error("bad text at {0}")]
     BadText(usize),
     /// A list has over 8 components.
+    #[error("a list has too many components")]
     TooMany,
     /// Tuples are nested over 4 deep.
+    #[error("tuples are nested too deep")]
     TooDeep,
     /// It has so many bytes, which is over 2,000.
+    #[error("the text has {0} bytes")]
     TooLong(usize),
     /// Memory ran out.
+    #[error("out of memory")]
     NoMemory,
 }
 
@@ -72,7 +79,7 @@ fn read_clustering(alloc: Global, fuel: usize, bytes: &[u8]) -> Result<(TypeList
 
 /// What a text of the grammar names, from the front of bytes.
 fn read_columns(alloc: Global, fuel: usize, bytes: &[u8]) -> Result<(Parts, &[u8]), Stop>
-    ensures { Gives (λ x. (parts_of x.0, x.1.now)) result (columns_at fuel bytes.now) }
+    ensures { Gives (λ x. (columns_of_parts x.0, x.1.now)) result (columns_at fuel bytes.now) }
 {
     let rest = read_sign(b'(', skip_spaces(bytes))?;
     let (partition, rest) = read_types(alloc, fuel, rest)?;
@@ -91,7 +98,7 @@ fn read_columns(alloc: Global, fuel: usize, bytes: &[u8]) -> Result<(Parts, &[u8
 
 /// What a whole text of the grammar names. One more than the length of the text is fuel enough.
 fn read_parts(alloc: Global, text: &[u8]) -> Result<Parts, Stop>
-    ensures { Gives parts_of result (whole (columns_at (length text.now + 1)) text.now) }
+    ensures { Gives columns_of_parts result (whole (columns_at (length text.now + 1)) text.now) }
 {
     let (parts, rest) = read_columns(alloc, text.len() + 1, text)?;
     if rest.is_empty() {
@@ -103,22 +110,22 @@ fn read_parts(alloc: Global, text: &[u8]) -> Result<Parts, Stop>
 
 /// Whether no list has over 8 components.
 fn has_few(parts: &Parts) -> bool
-    ensures { result ≡ has_few (parts_of parts.now) }
+    ensures { result ≡ has_few (columns_of_parts parts.now) }
 {
     is_short(&parts.partition) && is_short(&parts.clustering)
 }
 
 /// Whether no tuples are nested over 4 deep.
 fn is_flat(parts: &Parts) -> bool
-    ensures { result ≡ is_flat (parts_of parts.now) }
+    ensures { result ≡ is_flat (columns_of_parts parts.now) }
 {
     are_shallow(&parts.partition, 4) && are_shallow(&parts.clustering, 4)
 }
 
 /// The schema of these parts, or the first bound that they pass.
 fn bounded(parts: Parts) -> Result<Schema, SchemaError>
-    requires { AreColumns (parts_of parts) }
-    ensures { Bounded (parts_of parts) result }
+    requires { AreTextColumns (columns_of_parts parts) }
+    ensures { Bounded (columns_of_parts parts) result }
 {
     if !has_few(&parts) {
         return Err(SchemaError::TooMany);
@@ -153,7 +160,7 @@ fn parse(alloc: Global, text: &[u8]) -> Result<Schema, SchemaError>
 
 /// The schema of a text. Too long comes before a text that isn't of the grammar, then too many, then too deep.
 pub fn read_schema(alloc: Global, text: &[u8]) -> Result<Schema, SchemaError>
-    ensures { Reads text.now result }
+    ensures { ReadsSchemaText text.now result }
 {
     if text.len() > LONGEST {
         return Err(SchemaError::TooLong(text.len()));

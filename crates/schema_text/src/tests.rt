@@ -1,3 +1,4 @@
+//! Vectors of texts of schemas, and of their refusals.
 use super::*;
 use key_types::ByteList;
 use std::alloc::Global;

@@ -1,9 +1,10 @@
+//! Types of components from the front of bytes.
 ghost use Rattle.std.specs.Prelude.{◌≡◌, ℕ, Bool, List, Option, Some, None, Result, ⊤, IfOk, IfErr};
 ghost use Rattle.key_types.specs.Kinds.{kind_of, kinds_of, Kind};
 ghost use Rattle.grammar.specs.Code.{Gives};
-ghost use Rattle.grammar.specs.Reading.{or_else, ends, word_at};
+ghost use Rattle.grammar.specs.Reading.{or_else, ends, named_word_at};
 ghost use Rattle.grammar.specs.declared.stop.Stop.TheVariants.{Memory};
-ghost use Rattle.schema_text.specs.Reading.{simple_at, tuple_by, turn_at, turned, closing_at, kind_by, no_close, listed, some_kinds, more_by, behind_by, base_at, types_at};
+ghost use Rattle.schema_text.specs.Reading.{simple_at, tuple_by, turn_at, type_with, type_closing_at, kind_by, no_types_close, listed, some_kinds, more_by, behind_by, base_at, types_at};
 
 use crate::values::type_ends;
 use grammar::{Stop, further, read_sign, read_word};
@@ -35,7 +36,7 @@ fn either<'a>(
 
 /// A type that is this word.
 fn word_type<'a>(kind: ColType, word: &[u8], bytes: &'a [u8]) -> Result<Typed<'a>, Stop>
-    ensures { Gives (λ t. ((kind_of t.0, t.1), t.2.now)) result (word_at (word.now, kind_of kind) bytes.now) }
+    ensures { Gives (λ t. ((kind_of t.0, t.1), t.2.now)) result (named_word_at (word.now, kind_of kind) bytes.now) }
 {
     let (spaced, rest) = read_word(word, bytes)?;
     Ok((kind, spaced, rest))
@@ -70,7 +71,7 @@ fn read_turn(spaced: bool, bytes: &[u8]) -> Result<(Option<bool>, &[u8]), Stop>
 
 /// The type, or the reversed one.
 fn turned_type(alloc: Global, reversed: Option<bool>, kind: ColType) -> Result<ColType, Stop>
-    ensures ok { IfOk result (λ t. kind_of t ≡ turned reversed (kind_of kind)) }
+    ensures ok { IfOk result (λ t. kind_of t ≡ type_with reversed (kind_of kind)) }
     ensures err { IfErr result (λ e. e ≡ Memory) }
 {
     match reversed {
@@ -89,7 +90,7 @@ fn close_type(
     spaced: bool,
     bytes: &[u8],
 ) -> Result<(ColType, &[u8]), Stop>
-    ensures { Gives (λ x. (kind_of x.0, x.1.now)) result (closing_at spaced (kind_of kind) bytes.now) }
+    ensures { Gives (λ x. (kind_of x.0, x.1.now)) result (type_closing_at spaced (kind_of kind) bytes.now) }
 {
     let (reversed, rest) = read_turn(spaced, bytes)?;
     let rest = type_ends(rest)?;
@@ -99,7 +100,7 @@ fn close_type(
 
 /// Whether what stands behind types may stand there.
 fn list_ends(bytes: &[u8]) -> Result<&[u8], Stop>
-    ensures { Gives (λ x. (tt, x.now)) result (ends {A = ⊤} no_close tt bytes.now) }
+    ensures { Gives (λ x. (tt, x.now)) result (ends {A = ⊤} no_types_close tt bytes.now) }
 {
     match bytes {
         [] | [b';' | b'>' | b')', ..] => Ok(bytes),

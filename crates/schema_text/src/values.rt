@@ -1,14 +1,15 @@
+//! Types of values from the front of bytes.
 ghost use Rattle.std.specs.Prelude.{◌≡◌, ⊤};
 ghost use Rattle.grammar.specs.Code.{Gives};
 ghost use Rattle.grammar.specs.Reading.{one_of, ends};
-ghost use Rattle.schema_text.specs.Reading.{value_word_at, value_at, static_at, no_end};
+ghost use Rattle.schema_text.specs.Reading.{value_word_at, value_type_at, static_type_at, no_type_end};
 
 use grammar::{Stop, further, read_sign, read_word};
 use key_types::ValueType;
 
 /// Whether what stands behind a type may stand there.
 pub fn type_ends(bytes: &[u8]) -> Result<&[u8], Stop>
-    ensures { Gives (λ x. (tt, x.now)) result (ends {A = ⊤} no_end tt bytes.now) }
+    ensures { Gives (λ x. (tt, x.now)) result (ends {A = ⊤} no_type_end tt bytes.now) }
 {
     match bytes {
         [] | [b',' | b';' | b'>' | b')', ..] => Ok(bytes),
@@ -31,7 +32,7 @@ fn read_value_word(bytes: &[u8]) -> Result<(ValueType, bool, &[u8]), Stop>
 
 /// A value type.
 pub fn read_value_type(bytes: &[u8]) -> Result<(ValueType, &[u8]), Stop>
-    ensures { Gives (λ x. (x.0, x.1.now)) result (value_at bytes.now) }
+    ensures { Gives (λ x. (x.0, x.1.now)) result (value_type_at bytes.now) }
 {
     let (value, _, rest) = read_value_word(bytes)?;
     let rest = type_ends(rest)?;
@@ -40,7 +41,7 @@ pub fn read_value_type(bytes: &[u8]) -> Result<(ValueType, &[u8]), Stop>
 
 /// The type of a static value behind a semicolon, where one stands, and the last sign.
 pub fn read_static(bytes: &[u8]) -> Result<(Option<ValueType>, &[u8]), Stop>
-    ensures { Gives (λ x. (x.0, x.1.now)) result (static_at bytes.now) }
+    ensures { Gives (λ x. (x.0, x.1.now)) result (static_type_at bytes.now) }
 {
     match bytes {
         [b';', ..] => {

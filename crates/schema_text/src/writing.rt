@@ -1,3 +1,4 @@
+//! The canonical text of a schema, appended to bytes.
 ghost use Rattle.std.specs.Prelude.{◌≡◌, ◌++◌, length, take, OnOk, OnErr};
 ghost use Rattle.key_types.specs.Kinds.{kind_of, kinds_of};
 ghost use Rattle.key_types.specs.Columns.{columns_of};

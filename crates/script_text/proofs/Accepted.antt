@@ -18,8 +18,8 @@ use Rattle.script_text.specs.declared.script.ScriptError.TheVariants.{BadLine, T
 use Rattle.script_text.specs.Lines.{lines_of}
 use Rattle.script_text.specs.Grammar.{PutText, value_kind, IsTypeOf, RowFits, PutFits}
 use Rattle.script_text.specs.Reading.{line_of}
-use Rattle.script_text.specs.Script.{◌>>=◌, key_of, row_key, bytes_in, short_value, put_of, some_put, put_on, at_line, in_front, with_rest, puts_from, one_batch, script_of, puts_of}
-use Rattle.script_text.specs.Laws.{IsKey, IsPut, ArePuts, IsAccepted}
+use Rattle.script_text.specs.Script.{◌>>=◌, key_of, row_key, value_bytes, short_value, put_of, some_put, put_on, at_line, in_front, with_rest, puts_from, one_batch, script_of, puts_of}
+use Rattle.script_text.specs.Laws.{IsKey, IsSchemaPut, ArePuts, IsAccepted}
 use Rattle.script_text.proofs.Told.{line_fits}
 
 -- what two steps answer
@@ -47,7 +47,7 @@ short_by : (t : Bool) (v value : List ℕ) → nat_lt 65535 (length v) ≡ t →
 short_by true v value e is = cc
 short_by false v value e is = (let same : v ≡ value = cc in same, grind (arith, nat_tests))
 
-column_value : (t : ValueType) (v : Val) → Fits (value_kind t) v → length (bytes_in v) ≤ 65535 → IsValueOf t (bytes_in v)
+column_value : (t : ValueType) (v : Val) → Fits (value_kind t) v → length (value_bytes v) ≤ 65535 → IsValueOf t (value_bytes v)
 column_value Text (number z) h l = absurd h
 column_value Text (bytes b) h l = (l, h.0)
 column_value Text (truth b) h l = absurd h
@@ -57,32 +57,32 @@ column_value Blob (bytes b) h l = l
 column_value Blob (truth b) h l = absurd h
 column_value Blob (values vs) h l = absurd h
 
-value_is : (t : ValueType) (v : Val) (value : List ℕ) → Fits (value_kind t) v → short_value (bytes_in v) ≡ Ok value → IsValueOf t value
-value_is t v value h is = let p = short_by (nat_lt 65535 (length (bytes_in v))) (bytes_in v) value refl is in subst (IsValueOf t) p.0 (column_value t v h p.1)
+value_is : (t : ValueType) (v : Val) (value : List ℕ) → Fits (value_kind t) v → short_value (value_bytes v) ≡ Ok value → IsValueOf t value
+value_is t v value h is = let p = short_by (nat_lt 65535 (length (value_bytes v))) (value_bytes v) value refl is in subst (IsValueOf t) p.0 (column_value t v h p.1)
 
 -- ---- a put
 
 module _ (s : Columns) where
   inside_is : (cs : Option Vals) (v : Val) (line : ℕ) (partition clustering value : List ℕ) → RowFits s cs → (t : ValueType) → IsTypeOf s cs t → Fits (value_kind t) v → row_key s.clustering cs ≡ Ok clustering
-      → short_value (bytes_in v) ≡ Ok value → IsKey s.partition partition → IsPut s (record { line = line; partition = partition; clustering = clustering; value = value })
+      → short_value (value_bytes v) ≡ Ok value → IsKey s.partition partition → IsSchemaPut s (record { line = line; partition = partition; clustering = clustering; value = value })
   inside_is (Some cs) v line partition clustering value h t is fits key short first =
       (first, inl (key_is s.clustering cs clustering h key, value_is s.value v value (subst (λ (x : ValueType). Fits (value_kind x) v) is fits) short))
   inside_is None v line partition clustering value h t is fits key short first =
       (first, inr (t, is, (let same : [] ≡ clustering = cc in sym same), value_is t v value fits short))
 
-  put_is : (line : ℕ) (p : PutText) (put : Put) → PutFits s p → put_of s line p ≡ Ok put → IsPut s put
+  put_is : (line : ℕ) (p : PutText) (put : Put) → PutFits s p → put_of s line p ≡ Ok put → IsSchemaPut s put
   put_is line p put h is =
       let one = steps (key_of s.partition p.partition) _ put is in
       let two = steps (row_key s.clustering p.clustering) _ put one.2 in
-      let three = steps (short_value (bytes_in p.value)) _ put two.2 in
+      let three = steps (short_value (value_bytes p.value)) _ put two.2 in
       let same : record { line = line; partition = one.0; clustering = two.0; value = three.0 } ≡ put = cc in
-      subst (IsPut s) same
+      subst (IsSchemaPut s) same
       (inside_is p.clustering p.value line one.0 two.0 three.0 h.1 h.2.0 h.2.1 h.2.2 two.1 three.1 (key_is s.partition p.partition one.0 h.0 one.1))
 
   -- the put of a line, where it has one
   abbrev IsSome : Option Put → Type 0
   IsSome None = Unit {0}
-  IsSome (Some put) = IsPut s put
+  IsSome (Some put) = IsSchemaPut s put
 
   said_is : (line : ℕ) (text : List ℕ) (said : Option PutText) (put : Option Put) → is_utf8 text ≡ true → line_of s text ≡ Ok said → some_put s line said ≡ Ok put → IsSome put
   said_is line text None None u e h = tt
@@ -92,7 +92,7 @@ module _ (s : Columns) where
       let q = steps (put_of s line p) (λ put. Ok (Some put)) (Some put) h in
       let some : Some q.0 ≡ Some put = (let k = q.2 in cc) in
       let same : q.0 ≡ put = cc in
-      subst (IsPut s) same (put_is line p q.0 (line_fits s text (Some p) u e) q.1)
+      subst (IsSchemaPut s) same (put_is line p q.0 (line_fits s text (Some p) u e) q.1)
 
   line_by : (t : Bool) (line : ℕ) (text : List ℕ) (put : Option Put) → is_utf8 text ≡ t → (if t then (line_of s text >>= λ said. some_put s line said) else Err NotUtf8) ≡ Ok put → IsSome put
   line_by true line text put u h = let q = steps (line_of s text) (λ said. some_put s line said) put h in said_is line text q.0 put u q.1 q.2

@@ -7,4 +7,6 @@ pub mod PutLines
 pub mod Told
 pub mod Passed
 pub mod Accepted
+pub mod Ascending
+pub mod Meaning
 pub mod Steps

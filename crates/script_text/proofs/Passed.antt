@@ -6,14 +6,14 @@ use Rattle.grammar.proofs.Map.{whole_all}
 use Rattle.key_types.specs.Kinds.{Kind, tiny, small, int, big, text, blob, boolean, tuple, reversed, Kinds, end, more, number, values, and, Fits, EachFits}
 use Rattle.key_text.specs.Grammar.{IsLiteral, AreLiterals, AreFurther, IsList, IsText}
 use Rattle.key_text.specs.Marking.{Marked}
-use Rattle.key_text.specs.Outside.{Passes, AnyPasses, FurtherPasses, ListPasses}
+use Rattle.key_text.specs.Outside.{ValuePasses, AnyPasses, FurtherPasses, ListPasses}
 use Rattle.key_text.proofs.Tracked.{Marks, Tracked}
 use Rattle.key_types.specs.Columns.{Columns}
 use Rattle.script_text.specs.declared.script.LineCause.{LineCause}
 use Rattle.script_text.specs.declared.script.LineCause.TheVariants.{BadText}
 use Rattle.script_text.specs.Grammar.{PutText, IsPut, IsLine, PutFits, LineFits}
 use Rattle.script_text.specs.Passing.{PutPasses}
-use Rattle.script_text.specs.Reading.{put_at, whole_put, is_comment, is_blank, has_dash, told, line_of}
+use Rattle.script_text.specs.Reading.{put_line_at, whole_put, is_comment, is_blank, has_dash, told, line_of}
 use Rattle.script_text.proofs.PutLines.{Closing, PutNumbers, plain_put, put_exact, put_tracked, put_heads, spaced_put_exact}
 use Rattle.script_text.proofs.Told.{comment_is, blank_is}
 
@@ -24,7 +24,7 @@ abbrev Misfit : {A : Type 0} → (A → List ℕ → Type 0) → (A → Type 0) 
 Misfit {A} Is Fit bs = (a : A) × Is a bs × (Fit a → ⊥)
 
 mutual
-  value_misfit : (t : Kind) (bs : List ℕ) (at : ℕ) → Passes t bs at → Misfit (IsLiteral t) (Fits t) bs
+  value_misfit : (t : Kind) (bs : List ℕ) (at : ℕ) → ValuePasses t bs at → Misfit (IsLiteral t) (Fits t) bs
   value_misfit tiny bs at (z, is, n, e) = (number z, is, n)
   value_misfit small bs at (z, is, n, e) = (number z, is, n)
   value_misfit int bs at (z, is, n, e) = (number z, is, n)
@@ -96,7 +96,7 @@ module _ (s : Columns) where
     read_by (Err n) plain e h = absurd (let no : Err n ≡ Ok p = ap all_of (sym e) ∙ h in cc)
 
     put_all : IsText (IsPut s) p line → whole_put s line ≡ Ok (p, None)
-    put_all is = read_by (put_at s None behind) (plain_put s behind) (put_tracked s None behind) (whole_all (then_read spaces_at (λ _. plain_put s)) (IsText (IsPut s)) Closing (spaced_put_exact s) line p is)
+    put_all is = read_by (put_line_at s None behind) (plain_put s behind) (put_tracked s None behind) (whole_all (then_read spaces_at (λ _. plain_put s)) (IsText (IsPut s)) Closing (spaced_put_exact s) line p is)
 
   -- ---- a put begins like no other line
 

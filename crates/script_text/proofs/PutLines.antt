@@ -11,7 +11,7 @@ use Rattle.key_types.specs.declared.schema.ValueType.{ValueType}
 use Rattle.key_types.specs.declared.schema.ValueType.TheVariants.{Text, Blob}
 use Rattle.key_types.specs.Kinds.{text, blob, Val, bytes, Vals}
 use Rattle.key_text.specs.Grammar.{IsLiteral, IsList, IsText}
-use Rattle.key_text.specs.Outside.{NumbersFit, AllNumbersFit, Passes, ListPasses}
+use Rattle.key_text.specs.Outside.{NumbersFit, AllNumbersFit, ValuePasses, ListPasses}
 use Rattle.key_text.specs.Reading.{no_end}
 use Rattle.key_text.specs.Marking.{marked_at, marked_list}
 use Rattle.key_text.proofs.Plain.{value_at, list_at}
@@ -19,9 +19,9 @@ use Rattle.key_text.proofs.Composed.{exact_as}
 use Rattle.key_text.proofs.Lists.{value_exact, list_exact, literal_heads, list_heads, list_some, text_exact}
 use Rattle.key_text.proofs.Tracked.{Tracks, value_tracked, list_tracked}
 use Rattle.key_types.specs.Columns.{Columns}
-use Rattle.script_text.specs.Grammar.{PutText, value_kind, IsSet, IsRest, IsPut}
+use Rattle.script_text.specs.Grammar.{PutText, value_kind, IsSet, IsPutRest, IsPut}
 use Rattle.script_text.specs.Passing.{RowPasses, PutPasses}
-use Rattle.script_text.specs.Reading.{RestText, unmarked, set_at, row_at, static_at, is_open, rest_by, keyed, key_at, put_at}
+use Rattle.script_text.specs.Reading.{RestText, unmarked, set_at, row_rest_at, static_at, is_open, rest_by, keyed, key_at, put_line_at}
 use Rattle.script_text.proofs.Paired.{both, Both, both_exact, Never, unmarked_tracked, first_tracked, paired_tracked}
 
 -- what may stand behind a put
@@ -58,12 +58,12 @@ set_text t = let h = column_text t in (h.0, 61 ∷ h.1, (61 ∷ [], h.1, (0, ref
 set_heads : (t : ValueType) (Holds : ℕ → Type 0) → Holds 61 → Heads Holds (IsSet t)
 set_heads t Holds h v bs is = (61, replicate is.2.0 32 ++ is.1, is.4 ∙ ap (λ l. l ++ is.1) is.2.1, h)
 
-no_number : (t : ValueType) (bs : List ℕ) (at : ℕ) → Passes (value_kind t) bs at → ⊥
+no_number : (t : ValueType) (bs : List ℕ) (at : ℕ) → ValuePasses (value_kind t) bs at → ⊥
 no_number Text bs at h = h.1.2
 no_number Blob bs at h = h.1.2
 
 set_tracked : (t : ValueType) → Tracks (IsSet t) Never (λ _. ⊤) (set_at t) (plain_set t)
-set_tracked t = paired_tracked (λ _ w. w) (unmarked (sign_at 61)) (marked_at (value_kind t)) (sign_at 61) (value_at (value_kind t)) (IsSign 61) (IsLiteral (value_kind t)) (IsSet t) Never (Passes (value_kind t)) Never
+set_tracked t = paired_tracked (λ _ w. w) (unmarked (sign_at 61)) (marked_at (value_kind t)) (sign_at 61) (value_at (value_kind t)) (IsSign 61) (IsLiteral (value_kind t)) (IsSet t) Never (ValuePasses (value_kind t)) Never
     (λ _. ⊤) (NumbersFit (value_kind t)) (λ _. ⊤)
     (unmarked_tracked (sign_at 61) (IsSign 61) (λ _. NoSpace) (sign_exact 61 (omega arith))) (value_tracked (value_kind t))
     (λ u v front behind sign lit. (front, behind, sign, lit, refl)) (λ u v h k. tt) (λ v front behind at h is. h) (λ u front behind at is h k. no_number t behind at k)
@@ -71,7 +71,7 @@ set_tracked t = paired_tracked (λ _ w. w) (unmarked (sign_at 61)) (marked_at (v
 -- ---- behind the components of a partition
 
 abbrev RestIs : Columns → RestText → List ℕ → Type 0
-RestIs s r bs = IsRest s r.0 r.1 bs
+RestIs s r bs = IsPutRest s r.0 r.1 bs
 
 -- the numbers of a row fit
 abbrev pub RowNumbers : Columns → Option Vals → Type 0
@@ -98,7 +98,7 @@ module _ (s : Columns) where
   row_exact = both_exact row_of (list_at s.clustering) (plain_set s.value) (IsList s.clustering) (IsSet s.value) (λ _. NoSpace) (λ b. no_end b ≡ false) (list_exact s.clustering) (set_exact s.value) (set_text s.value)
       (λ cs v bs rest is. heads_begin NoSpace (IsSet s.value) (set_heads s.value NoSpace refl) v bs rest is)
 
-  row_tracked : Tracks (RestIs s) (RowPasses s) (RestNumbers s) (row_at s) plain_row
+  row_tracked : Tracks (RestIs s) (RowPasses s) (RestNumbers s) (row_rest_at s) plain_row
   row_tracked = paired_tracked row_of (marked_list s.clustering) (set_at s.value) (list_at s.clustering) (plain_set s.value) (IsList s.clustering) (IsSet s.value) (RestIs s) (ListPasses s.clustering) Never (RowPasses s)
       (AllNumbersFit s.clustering) (λ _. ⊤) (RestNumbers s) (list_tracked s.clustering) (set_tracked s.value)
       (λ cs v front behind list set. (front, behind, list, set, refl)) (λ cs v h k. h) (λ v front behind at h set. (front, behind, v, refl, h, set)) (λ cs front behind at is h k. absurd k)
@@ -177,7 +177,7 @@ module _ (s : Columns) where
 
   rest_tracked : (o : Option ValueType) → s.static_value ≡ o → Tracks (RestIs s) (RowPasses s) (RestNumbers s) (rest_by s o) (plain_rest o)
   rest_tracked None fixed = row_tracked
-  rest_tracked (Some t) fixed = first_tracked is_open (RestIs s) (RowPasses s) (RestNumbers s) (row_at s) (static_at t) plain_row (plain_static t) row_tracked (static_tracked t fixed)
+  rest_tracked (Some t) fixed = first_tracked is_open (RestIs s) (RowPasses s) (RestNumbers s) (row_rest_at s) (static_at t) plain_row (plain_static t) row_tracked (static_tracked t fixed)
 
   rest_heads : (r : RestText) (bs : List ℕ) → RestIs s r bs → (c : ℕ) × (cs : List ℕ) × (bs ≡ c ∷ cs) × NoSpace c
   rest_heads (Some cs, v) bs (list, set, l, is, e) = let p = list_heads s.clustering cs list l in (p.0, p.1 ++ set, e ∙ ap (λ x. x ++ set) p.2, p.3)
@@ -186,12 +186,12 @@ module _ (s : Columns) where
   -- ---- the components of a partition, and what is behind them
 
   abbrev KeyIs : PutText → List ℕ → Type 0
-  KeyIs p bs = (list : List ℕ) × (rest : List ℕ) × IsList s.partition p.partition list × IsRest s p.clustering p.value rest × (bs ≡ list ++ rest)
+  KeyIs p bs = (list : List ℕ) × (rest : List ℕ) × IsList s.partition p.partition list × IsPutRest s p.clustering p.value rest × (bs ≡ list ++ rest)
 
   abbrev KeyPasses : List ℕ → ℕ → Type 0
   KeyPasses bs at =
       (list : List ℕ) × (rest : List ℕ) × (k : ℕ) × (bs ≡ list ++ rest)
-      × ((ListPasses s.partition list k × (at ≡ k) × (cs : Option Vals) × (v : Val) × IsRest s cs v rest)
+      × ((ListPasses s.partition list k × (at ≡ k) × (cs : Option Vals) × (v : Val) × IsPutRest s cs v rest)
       ⊎ ((vs : Vals) × IsList s.partition vs list × AllNumbersFit s.partition vs × RowPasses s rest k × (at ≡ length list + k)))
 
   -- all numbers fit
@@ -250,7 +250,7 @@ module _ (s : Columns) where
   passes_word spaced front behind at w (list, rest, k, e, inr (vs, l, n, h, same)) =
       (front, list, rest, k, (spaced, w), ap (λ x. front ++ x) e, inr (vs, l, n, h, ap (λ n. length front + n) same))
 
-  pub put_tracked : Tracks (IsPut s) (PutPasses s) PutNumbers (put_at s) plain_put
+  pub put_tracked : Tracks (IsPut s) (PutPasses s) PutNumbers (put_line_at s) plain_put
   put_tracked = paired_tracked (λ _ q. q) (unmarked (token true (codes "put"))) (key_at s) (token true (codes "put")) plain_key (IsToken (codes "put")) KeyIs (IsPut s) Never KeyPasses (PutPasses s)
       (λ _. ⊤) PutNumbers PutNumbers
       (unmarked_tracked (token true (codes "put")) (IsToken (codes "put")) (AfterGap true) (token_exact true (codes "put") (are_bytes (codes "put") refl))) key_tracked

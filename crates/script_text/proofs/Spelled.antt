@@ -5,8 +5,8 @@ use Rattle.grammar.specs.Reading.{token}
 use Rattle.key_types.specs.Kinds.{Vals}
 use Rattle.key_types.specs.Columns.{Columns}
 use Rattle.key_text.specs.Marking.{marked_list}
-use Rattle.script_text.specs.Reading.{RestText, keyed, put_at, rest_by}
+use Rattle.script_text.specs.Reading.{RestText, keyed, put_line_at, rest_by}
 
 pub put_read : (s : Columns) (mark middle now : Option ℕ) (bs inside behind rest : List ℕ) (spaced : Bool) (vs : Vals) (r : RestText) → token true (codes "put") bs ≡ Ok (spaced, inside)
-    → marked_list s.partition mark inside ≡ Ok ((vs, middle), behind) → rest_by s s.static_value middle behind ≡ Ok ((r, now), rest) → put_at s mark bs ≡ Ok ((keyed vs r, now), rest)
+    → marked_list s.partition mark inside ≡ Ok ((vs, middle), behind) → rest_by s s.static_value middle behind ≡ Ok ((r, now), rest) → put_line_at s mark bs ≡ Ok ((keyed vs r, now), rest)
 put_read s mark middle now bs inside behind rest spaced vs r word list set = rw (word, list, set) refl

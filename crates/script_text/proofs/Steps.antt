@@ -14,13 +14,13 @@ use Rattle.script_text.specs.declared.script.ScriptError.TheVariants.{BadLine, T
 use Rattle.script_text.specs.Grammar.{PutText}
 use Rattle.grammar.specs.Reading.{without_spaces, all_of}
 use Rattle.key_text.specs.Marking.{Marked}
-use Rattle.script_text.specs.Reading.{line_of, put_at, whole_put}
+use Rattle.script_text.specs.Reading.{line_of, put_line_at, whole_put}
 use Rattle.script_text.specs.declared.puts.PutLine.{PutLine}
-use Rattle.script_text.specs.Parts.{IsPutOf, put_with, Sees, string_within}
-use Rattle.script_text.specs.Script.{◌>>=◌, row_key, bytes_in, short_key, short_value, put_of, some_put, put_on, at_line, Answers}
+use Rattle.script_text.specs.Parts.{IsPutOf, put_with, SeesPut, string_within}
+use Rattle.script_text.specs.Script.{◌>>=◌, row_key, value_bytes, short_key, short_value, put_of, some_put, put_on, at_line, AnswersScript}
 
 -- bytes are left behind a put
-pub whole_left : (s : Columns) (line : List ℕ) (x : Marked PutText) (rest : List ℕ) → put_at s None (without_spaces line) ≡ Ok (x, rest) → 1 ≤ length rest → whole_put s line ≡ Err (length rest)
+pub whole_left : (s : Columns) (line : List ℕ) (x : Marked PutText) (rest : List ℕ) → put_line_at s None (without_spaces line) ≡ Ok (x, rest) → 1 ≤ length rest → whole_put s line ≡ Err (length rest)
 whole_left s line x [] h l = absurd (omega arith)
 whole_left s line x (b ∷ bs) h l = ap all_of h
 
@@ -42,9 +42,9 @@ put_same s line p put ((key, value), split) =
     let string = key_string s.partition p.partition in
     let partition : take put.split put.key ≡ string = ap (λ k. take k put.key) split ∙ ap (take (length string)) key ∙ take-append_seam string (string_within s p.clustering) in
     let clustering : drop put.split put.key ≡ string_within s p.clustering = ap (λ k. drop k put.key) split ∙ ap (drop (length string)) key ∙ drop-append_seam string (string_within s p.clustering) in
-    ap (λ a. with_parts line a (row_key s.clustering p.clustering) (bytes_in p.value)) (sym partition)
-    ∙ ap (λ b. with_parts line (take put.split put.key) b (bytes_in p.value)) (row_same s p.clustering ∙ ap short_key (sym clustering))
-    ∙ ap (λ v. with_parts line (take put.split put.key) (short_key (drop put.split put.key)) (bytes_in v)) value
+    ap (λ a. with_parts line a (row_key s.clustering p.clustering) (value_bytes p.value)) (sym partition)
+    ∙ ap (λ b. with_parts line (take put.split put.key) b (value_bytes p.value)) (row_same s p.clustering ∙ ap short_key (sym clustering))
+    ∙ ap (λ v. with_parts line (take put.split put.key) (short_key (drop put.split put.key)) (value_bytes v)) value
 
 module _ (s : Columns) (line : ℕ) (text : List ℕ) (utf8 : is_utf8 text ≡ true) where
   is_said : put_on s line text ≡ (line_of s text >>= λ said. some_put s line said)
@@ -59,13 +59,13 @@ module _ (s : Columns) (line : ℕ) (text : List ℕ) (utf8 : is_utf8 text ≡ t
   ok_by (Err cause) said h = cc
 
   -- the line is refused
-  pub refused : (e : ScriptError) → Sees s (Err e) (at_line line (line_of s text)) → Answers {X = Option Put} (Err e) (at_line line (put_on s line text))
+  pub refused : (e : ScriptError) → SeesPut s (Err e) (at_line line (line_of s text)) → AnswersScript {X = Option Put} (Err e) (at_line line (put_on s line text))
   refused NoMemory h = tt
   refused TooLarge h = sym (ap (at_line line) is_said ∙ err_by (line_of s text) TooLarge h)
   refused (BadLine n cause) h = sym (ap (at_line line) is_said ∙ err_by (line_of s text) (BadLine n cause) h)
 
   -- the line says nothing
-  pub nothing : at_line line (line_of s text) ≡ Ok None → Answers (Ok None) (at_line line (put_on s line text))
+  pub nothing : at_line line (line_of s text) ≡ Ok None → AnswersScript (Ok None) (at_line line (put_on s line text))
   nothing h = sym (ap (at_line line) (is_said ∙ ok_by (line_of s text) None h))
 
   some_by : (got : Result Put LineCause) (put : Put) → at_line line got ≡ Ok put → at_line line (got >>= λ put. Ok (Some put)) ≡ Ok (Some put)
@@ -85,10 +85,10 @@ module _ (s : Columns) (line : ℕ) (text : List ℕ) (utf8 : is_utf8 text ≡ t
       of_strings = ap (at_line line) (put_same s line p read same)
 
       -- its put is accepted, or not
-      pub accepted : (put : Put) → Answers (Ok put) (at_line line (put_with line read)) → Answers (Ok (Some put)) (at_line line (put_on s line text))
+      pub accepted : (put : Put) → AnswersScript (Ok put) (at_line line (put_with line read)) → AnswersScript (Ok (Some put)) (at_line line (put_on s line text))
       accepted put h = sym (is_put ∙ some_by (put_of s line p) put (of_strings ∙ sym h))
 
-      pub rejected : (e : ScriptError) → Answers {X = Put} (Err e) (at_line line (put_with line read)) → Answers {X = Option Put} (Err e) (at_line line (put_on s line text))
+      pub rejected : (e : ScriptError) → AnswersScript {X = Put} (Err e) (at_line line (put_with line read)) → AnswersScript {X = Option Put} (Err e) (at_line line (put_on s line text))
       rejected NoMemory h = tt
       rejected TooLarge h = sym (is_put ∙ none_by (put_of s line p) TooLarge (of_strings ∙ sym h))
       rejected (BadLine n cause) h = sym (is_put ∙ none_by (put_of s line p) (BadLine n cause) (of_strings ∙ sym h))

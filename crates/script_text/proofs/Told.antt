@@ -2,7 +2,7 @@
 use Rattle.std.proofs.Common.{◌≡◌, ℕ, zero, suc, ◌-◌, ◌≤◌, ◌==◌, Bool, true, false, ◌&&◌, ◌||◌, List, [], ◌∷◌, ◌++◌, length, Option, Some, None, Result, Ok, Err, refl, sym, ◌∙◌, ap, arith, subst, append_assoc, inl, inr}
 use Rattle.std.specs.Prelude.{replicate, if◌then◌else◌}
 use Rattle.std.specs.Str.{IsUtf8, is_utf8}
-use Rattle.grammar.specs.Exact.{Longest, AreBytes as AreOctets}
+use Rattle.grammar.specs.Exact.{Longest}
 use Rattle.grammar.proofs.Tokens.{same_byte}
 use Rattle.key_types.specs.declared.schema.ValueType.{ValueType}
 use Rattle.key_types.specs.declared.schema.ValueType.TheVariants.{Text, Blob}
@@ -15,9 +15,9 @@ use Rattle.key_text.proofs.Answered as answered
 use Rattle.key_types.specs.Columns.{Columns}
 use Rattle.script_text.specs.declared.script.LineCause.{LineCause}
 use Rattle.script_text.specs.declared.script.LineCause.TheVariants.{BadText}
-use Rattle.script_text.specs.Grammar.{PutText, value_kind, IsSet, IsRest, IsPut, IsComment, IsBlank, IsLine, IsTypeOf, RowFits, PutFits, LineFits}
+use Rattle.script_text.specs.Grammar.{PutText, value_kind, IsSet, IsPutRest, IsPut, IsComment, IsBlank, IsLine, IsTypeOf, RowFits, PutFits, LineFits}
 use Rattle.script_text.specs.Passing.{PutPasses, LinePasses}
-use Rattle.script_text.specs.Reading.{put_at, whole_put, is_comment, is_blank, has_dash, told, line_of}
+use Rattle.script_text.specs.Reading.{put_line_at, whole_put, is_comment, is_blank, has_dash, told, line_of}
 use Rattle.script_text.specs.Laws.{LineReads}
 use Rattle.script_text.proofs.Octets.{utf8_bytes}
 use Rattle.script_text.proofs.PutLines.{Closing, RowNumbers, PutNumbers, plain_put, put_tracked, put_heads, put_text, spaced_put_exact}
@@ -57,7 +57,7 @@ set_fits : (t : ValueType) (v : Val) (bs : List ℕ) → IsSet t v bs → Within
 set_fits t v bs (equals, value, sign, lit, e) w h =
     literal_fits (value_kind t) v value lit (within_second equals value (subst Within e w)) (back_bytes equals value (subst AreBytes e h)) (column_numbers t v value lit)
 
-rest_fits : (s : Columns) (cs : Option Vals) (v : Val) (bs : List ℕ) → IsRest s cs v bs → Within bs → AreBytes bs → RowNumbers s cs → RowFits s cs × ((t : ValueType) × IsTypeOf s cs t × Fits (value_kind t) v)
+rest_fits : (s : Columns) (cs : Option Vals) (v : Val) (bs : List ℕ) → IsPutRest s cs v bs → Within bs → AreBytes bs → RowNumbers s cs → RowFits s cs × ((t : ValueType) × IsTypeOf s cs t × Fits (value_kind t) v)
 rest_fits s (Some cs) v bs (list, set, l, is, e) w h n =
     let x = subst Within e w in
     let y = subst AreBytes e h in
@@ -181,7 +181,7 @@ module _ (s : Columns) where
     no_further = λ b bs e v. further b bs e v.0 v.1 v.2 v.3;
   }
     where
-      further : (b : ℕ) (bs : List ℕ) → l.rest ≡ b ∷ bs → (more : List ℕ) (said : Option PutText) → IsLine s said ((l.front ++ b ∷ []) ++ more) → AreOctets more → ⊥
+      further : (b : ℕ) (bs : List ℕ) → l.rest ≡ b ∷ bs → (more : List ℕ) (said : Option PutText) → IsLine s said ((l.front ++ b ∷ []) ++ more) → AreBytes more → ⊥
       further b bs e more None (inl is) k = never (has_dash line) h (dash_first l.front b bs line more (l.parts ∙ ap (λ x. l.front ++ x) e) is)
       further b bs e more None (inr is) k =
           let cut = cut_spaces is.0 (l.front ++ b ∷ []) more is.1 in
@@ -191,16 +191,16 @@ module _ (s : Columns) where
 
   module _ (line : List ℕ) where
     read : (p : PutText) → whole_put s line ≡ Ok (p, None) → IsText (IsPut s) p line × PutNumbers s p
-    read p h = answered.read (IsPut s) (PutPasses s) (PutNumbers s) Closing (put_at s) (plain_put s) (put_tracked s) (spaced_put_exact s) line p h
+    read p h = answered.read (IsPut s) (PutPasses s) (PutNumbers s) Closing (put_line_at s) (plain_put s) (put_tracked s) (spaced_put_exact s) line p h
 
-    pub outside : (p : PutText) (left : ℕ) → whole_put s line ≡ Ok (p, Some left) → (left ≤ length line) × LinePasses s line (length line - left)
-    outside p left h = answered.outside (IsPut s) (PutPasses s) (PutNumbers s) Closing (put_at s) (plain_put s) (put_tracked s) (spaced_put_exact s) line p left h
+    pub out_of_range : (p : PutText) (left : ℕ) → whole_put s line ≡ Ok (p, Some left) → (left ≤ length line) × LinePasses s line (length line - left)
+    out_of_range p left h = answered.out_of_range (IsPut s) (PutPasses s) (PutNumbers s) Closing (put_line_at s) (plain_put s) (put_tracked s) (spaced_put_exact s) line p left h
 
     refused : (left : ℕ) → whole_put s line ≡ Err left → ((p : PutText) → IsText (IsPut s) p line → ⊥) × Longest (IsText (IsPut s)) line (length line - left)
-    refused left h = answered.refused (IsPut s) (PutPasses s) (PutNumbers s) Closing (put_at s) (plain_put s) (put_tracked s) (spaced_put_exact s) line left h
+    refused left h = answered.refused (IsPut s) (PutPasses s) (PutNumbers s) Closing (put_line_at s) (plain_put s) (put_tracked s) (spaced_put_exact s) line left h
 
     pub left_within : (left : ℕ) → whole_put s line ≡ Err left → left ≤ length line
-    left_within left h = answered.left_within (IsPut s) (PutPasses s) (PutNumbers s) Closing (put_at s) (plain_put s) (put_tracked s) (spaced_put_exact s) line left h
+    left_within left h = answered.left_within (IsPut s) (PutPasses s) (PutNumbers s) Closing (put_line_at s) (plain_put s) (put_tracked s) (spaced_put_exact s) line left h
 
     whole_fits : (p : PutText) → IsText (IsPut s) p line → PutNumbers s p → is_utf8 line ≡ true → PutFits s p
     whole_fits p (n, rest, e, is) h u = put_fits s p rest is (whole_within n rest line e u) (whole_bytes n rest line e (utf8_bytes line u)) h
@@ -216,7 +216,7 @@ module _ (s : Columns) where
 
     told_by : (got : Result (Marked PutText) ℕ) → whole_put s line ≡ got → is_utf8 line ≡ true → is_comment line ≡ false → is_blank line ≡ false → has_dash line ≡ false → LineReads s line (told (length line) got)
     told_by (Ok (p, None)) e u c b d = let h = read p e in (h.0, whole_fits p h.0 h.1 u)
-    told_by (Ok (p, Some left)) e u c b d = (outside p left e).1
+    told_by (Ok (p, Some left)) e u c b d = (out_of_range p left e).1
     told_by (Err left) e u c b d = let h = refused left e in (none c b h.0, lifted line (length line - left) d h.1)
 
     reads_by : (t v w : Bool) → is_comment line ≡ t → is_blank line ≡ v → has_dash line ≡ w → is_utf8 line ≡ true

@@ -19,24 +19,24 @@ value_kind Text = text
 value_kind Blob = blob
 
 -- a word with the spaces behind it, or none
-abbrev pub IsWord : List ℕ → List ℕ → Type 0
-IsWord word bs = (spaced : Bool) × IsToken word spaced bs
+abbrev pub IsSpacedWord : List ℕ → List ℕ → Type 0
+IsSpacedWord word bs = (spaced : Bool) × IsToken word spaced bs
 
 -- an equals sign and a value of the type
 abbrev pub IsSet : ValueType → Val → List ℕ → Type 0
 IsSet t v bs = (equals : List ℕ) × (value : List ℕ) × IsSign 61 tt equals × IsLiteral (value_kind t) v value × (bs ≡ equals ++ value)
 
 -- the components of a row, and what it is set to; or, where there is a static type, the word `static`, and what that is set to
-abbrev pub IsRest : Columns → Option Vals → Val → List ℕ → Type 0
-IsRest s (Some cs) v bs = (list : List ℕ) × (set : List ℕ) × IsList s.clustering cs list × IsSet s.value v set × (bs ≡ list ++ set)
-IsRest s None v bs =
-    (t : ValueType) × (word : List ℕ) × (set : List ℕ) × (s.static_value ≡ Some t) × IsWord (codes "static") word × IsSet t v set × (bs ≡ word ++ set)
+abbrev pub IsPutRest : Columns → Option Vals → Val → List ℕ → Type 0
+IsPutRest s (Some cs) v bs = (list : List ℕ) × (set : List ℕ) × IsList s.clustering cs list × IsSet s.value v set × (bs ≡ list ++ set)
+IsPutRest s None v bs =
+    (t : ValueType) × (word : List ℕ) × (set : List ℕ) × (s.static_value ≡ Some t) × IsSpacedWord (codes "static") word × IsSet t v set × (bs ≡ word ++ set)
 
 -- `put`, the components of a partition, and the rest, without spaces before
 abbrev pub IsPut : Columns → PutText → List ℕ → Type 0
 IsPut s p bs =
     (word : List ℕ) × (list : List ℕ) × (rest : List ℕ)
-    × IsWord (codes "put") word × IsList s.partition p.partition list × IsRest s p.clustering p.value rest × (bs ≡ word ++ (list ++ rest))
+    × IsSpacedWord (codes "put") word × IsList s.partition p.partition list × IsPutRest s p.clustering p.value rest × (bs ≡ word ++ (list ++ rest))
 
 -- two dashes, and anything behind them
 abbrev pub IsComment : List ℕ → Type 0

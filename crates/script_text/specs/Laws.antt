@@ -5,6 +5,11 @@ use Rattle.key_types.specs.declared.schema.ValueType.{ValueType}
 use Rattle.key_types.specs.Columns.{Columns, IsValueOf}
 use Rattle.key_types.specs.Kinds.{Kinds, Vals, EachFits}
 use Rattle.byte_comparable.specs.Encoding.{key_string}
+use Rattle.byte_comparable.specs.Strings.{longest_string}
+use Rattle.byte_comparable.specs.Order.{Key, KeyFits, key_order, string_of_key}
+use Rattle.key_types.specs.Table.{Entry, table_of}
+use Rattle.std.specs.declared.cmp.Ordering.TheVariants.{Less}
+use Rattle.std.specs.FinMap as map
 use Rattle.grammar.specs.Exact.{Longest}
 use Rattle.script_text.specs.declared.script.LineCause.{LineCause}
 use Rattle.script_text.specs.declared.script.LineCause.TheVariants as cause
@@ -13,7 +18,7 @@ use Rattle.script_text.specs.declared.script.Script.{Script}
 use Rattle.script_text.specs.Grammar.{PutText, IsLine, LineFits}
 use Rattle.script_text.specs.Passing.{LinePasses}
 use Rattle.script_text.specs.Reading.{line_of}
-use Rattle.script_text.specs.Script.{puts_of, script_of}
+use Rattle.script_text.specs.Script.{most_lines, puts_of, entries_of, script_of}
 
 -- ---- lines
 
@@ -33,9 +38,9 @@ pub record ReadsLines : Type 0 where
 
 -- ---- puts
 
--- the string of some components that fit, of at most 1,024 bytes
+-- the string of some components that fit, which isn't too long
 abbrev pub IsKey : Kinds → List ℕ → Type 0
-IsKey ts string = (vs : Vals) × EachFits ts vs × (string ≡ key_string ts vs) × (length string ≤ 1024)
+IsKey ts string = (vs : Vals) × EachFits ts vs × (string ≡ key_string ts vs) × (length string ≤ longest_string)
 
 -- a put of a row: its strings are keys, and the value is of the type of rows
 abbrev pub IsRowPut : Columns → Put → Type 0
@@ -46,20 +51,42 @@ abbrev pub IsStaticPut : Columns → Put → Type 0
 IsStaticPut s put = (t : ValueType) × (s.static_value ≡ Some t) × (put.clustering ≡ []) × IsValueOf t put.value
 
 -- a put under a schema
-abbrev pub IsPut : Columns → Put → Type 0
-IsPut s put = IsKey s.partition put.partition × (IsRowPut s put ⊎ IsStaticPut s put)
+abbrev pub IsSchemaPut : Columns → Put → Type 0
+IsSchemaPut s put = IsKey s.partition put.partition × (IsRowPut s put ⊎ IsStaticPut s put)
 
 -- all are puts under a schema
 abbrev pub ArePuts : Columns → List Put → Type 0
 ArePuts s [] = Unit {0}
-ArePuts s (put ∷ puts) = IsPut s put × ArePuts s puts
+ArePuts s (put ∷ puts) = IsSchemaPut s put × ArePuts s puts
 
--- all puts of the script are such puts, they are counted, and there are at most 1,000,000
+-- all puts of the script are such puts, they are counted, and there are not too many
 pub record IsAccepted (s : Columns) (script : Script) : Type 0 where
   pub are : ArePuts s (puts_of script.batches)
   pub count : script.puts ≡ length (puts_of script.batches)
-  pub few : length (puts_of script.batches) ≤ 1000000
+  pub few : length (puts_of script.batches) ≤ most_lines
 
 -- every script that bytes spell is such a script
 abbrev pub SpelledAreAccepted : Type 0
 SpelledAreAccepted = (s : Columns) (bytes : List ℕ) (script : Script) → script_of s bytes ≡ Ok script → IsAccepted s script
+
+-- ---- the sorted map of an accepted script
+
+-- the string is that of this typed key, each component of which fits its type
+abbrev pub HasKey : Columns → Key → List ℕ → Type 0
+HasKey s key string = KeyFits s.partition s.clustering key × (string ≡ string_of_key s.partition s.clustering key)
+
+-- the entries are of these typed keys, one after the other
+abbrev pub AreOfKeys : Columns → List Key → List Entry → Type 0
+AreOfKeys s [] entries = entries ≡ []
+AreOfKeys s (key ∷ keys) entries = (entry : Entry) × (rest : List Entry) × (entries ≡ entry ∷ rest) × HasKey s key entry.0 × AreOfKeys s keys rest
+
+-- each key is less than the next, a static key first in its partition
+abbrev pub KeysAscend : Columns → List Key → Type 0
+KeysAscend s [] = Unit {0}
+KeysAscend s (key ∷ []) = Unit {0}
+KeysAscend s (key ∷ next ∷ keys) = (key_order s.partition s.clustering key next ≡ Less) × KeysAscend s (next ∷ keys)
+
+-- the entries of the sorted map of an accepted script's puts ascend by the order of their typed keys
+abbrev pub EntriesAscend : Type 0
+EntriesAscend = (s : Columns) (bytes : List ℕ) (script : Script) → script_of s bytes ≡ Ok script
+    → (keys : List Key) × AreOfKeys s keys (map.entries (table_of (entries_of (puts_of script.batches)))) × KeysAscend s keys

@@ -6,3 +6,4 @@ pub mod Reading
 pub mod Parts
 pub mod Script
 pub mod Laws
+pub mod Meaning

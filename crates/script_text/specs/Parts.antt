@@ -1,7 +1,5 @@
 -- What was read of a line, spelled as the strings of its key: only private contracts cite it.
 use Rattle.std.specs.Prelude.{◌≡◌, ℕ, List, [], ◌++◌, length, take, drop, Option, None, Some, Result, Ok, Err}
-use Rattle.grammar.specs.declared.stop.Stop.{Stop}
-use Rattle.grammar.specs.Code.{Stops}
 use Rattle.key_types.specs.Kinds.{bytes, Val, Vals}
 use Rattle.key_types.specs.Columns.{Columns}
 use Rattle.byte_comparable.specs.Encoding.{key_string}
@@ -32,22 +30,12 @@ IsRestOf s rest before after value = (after ≡ before ++ string_within s rest.0
 abbrev pub IsPutOf : Columns → PutText → PutLine → Type 0
 IsPutOf s put line = IsRestOf s (put.clustering, put.value) (key_string s.partition put.partition) line.key line.value × (line.split ≡ length (key_string s.partition put.partition))
 
--- the code read something of which this holds, as the definition reads it, with this mark; or the definition's reading stops there too, or memory ran out
-abbrev pub GivesOne : {A X : Type 0} → (A → X → Type 0) → (X → List ℕ) → Option ℕ → Result X Stop → Result (Marked A × List ℕ) ℕ → Type 0
-GivesOne {A} Of left mark (Ok x) read = (a : A) × (read ≡ Ok ((a, mark), left x)) × Of a x
-GivesOne Of left mark (Err e) read = Stops e read
-
--- the same of a whole line
-abbrev pub GivesWhole : {A X : Type 0} → (A → X → Type 0) → (X → Option ℕ) → Result X Stop → Result (Marked A) ℕ → Type 0
-GivesWhole {A} Of mark (Ok x) read = (a : A) × (read ≡ Ok (a, mark x)) × Of a x
-GivesWhole Of mark (Err e) read = Stops e read
-
 -- the line says nothing, or a put of which this line has the strings; or it is refused so, or memory ran out
-abbrev pub Sees : Columns → Result (Option PutLine) ScriptError → Result (Option PutText) ScriptError → Type 0
-Sees s (Ok None) said = said ≡ Ok None
-Sees s (Ok (Some line)) said = (put : PutText) × (said ≡ Ok (Some put)) × IsPutOf s put line
-Sees s (Err NoMemory) said = Unit {0}
-Sees s (Err e) said = said ≡ Err e
+abbrev pub SeesPut : Columns → Result (Option PutLine) ScriptError → Result (Option PutText) ScriptError → Type 0
+SeesPut s (Ok None) said = said ≡ Ok None
+SeesPut s (Ok (Some line)) said = (put : PutText) × (said ≡ Ok (Some put)) × IsPutOf s put line
+SeesPut s (Err NoMemory) said = Unit {0}
+SeesPut s (Err e) said = said ≡ Err e
 
 -- the put of these strings and this value, or the first of them that is too long
 abbrev pub put_with : ℕ → PutLine → Result Put LineCause

@@ -4,7 +4,7 @@ use Rattle.key_types.specs.Kinds.{Val, Vals}
 use Rattle.key_text.specs.Grammar.{IsList}
 use Rattle.key_text.specs.Outside.{AllNumbersFit, ListPasses, TextPasses}
 use Rattle.key_types.specs.Columns.{Columns}
-use Rattle.script_text.specs.Grammar.{IsWord, IsSet, IsRest}
+use Rattle.script_text.specs.Grammar.{IsSpacedWord, IsSet, IsPutRest}
 
 -- among the components of a row
 abbrev pub RowPasses : Columns → List ℕ → ℕ → Type 0
@@ -14,8 +14,8 @@ RowPasses s bs at =
 -- the line puts, with numbers of any size: the first number that passes its type is among the components of the partition, or else of the row
 abbrev pub PutPasses : Columns → List ℕ → ℕ → Type 0
 PutPasses s bs at =
-    (word : List ℕ) × (list : List ℕ) × (rest : List ℕ) × (k : ℕ) × IsWord (codes "put") word × (bs ≡ word ++ (list ++ rest))
-    × ((ListPasses s.partition list k × (at ≡ length word + k) × (cs : Option Vals) × (v : Val) × IsRest s cs v rest)
+    (word : List ℕ) × (list : List ℕ) × (rest : List ℕ) × (k : ℕ) × IsSpacedWord (codes "put") word × (bs ≡ word ++ (list ++ rest))
+    × ((ListPasses s.partition list k × (at ≡ length word + k) × (cs : Option Vals) × (v : Val) × IsPutRest s cs v rest)
     ⊎ ((vs : Vals) × IsList s.partition vs list × AllNumbersFit s.partition vs × RowPasses s rest k × (at ≡ length word + (length list + k))))
 
 -- spaces may stand before it

@@ -31,8 +31,8 @@ abbrev pub set_at : ValueType → Option ℕ → Read (Marked Val)
 set_at t = paired (λ _ v. v) (unmarked (sign_at 61)) (marked_at (value_kind t))
 
 -- the components of a row, and what it is set to
-abbrev pub row_at : Columns → Option ℕ → Read (Marked RestText)
-row_at s = paired (λ cs v. (Some cs, v)) (marked_list s.clustering) (set_at s.value)
+abbrev pub row_rest_at : Columns → Option ℕ → Read (Marked RestText)
+row_rest_at s = paired (λ cs v. (Some cs, v)) (marked_list s.clustering) (set_at s.value)
 
 -- the word `static`, and what the static value is set to
 abbrev pub static_at : ValueType → Option ℕ → Read (Marked RestText)
@@ -44,8 +44,8 @@ is_open b = b == 40
 
 -- a row, or where there is a static type, perhaps `static`
 abbrev pub rest_by : Columns → Option ValueType → Option ℕ → Read (Marked RestText)
-rest_by s None mark = row_at s mark
-rest_by s (Some t) mark = by_first is_open (row_at s mark) (static_at t mark)
+rest_by s None mark = row_rest_at s mark
+rest_by s (Some t) mark = by_first is_open (row_rest_at s mark) (static_at t mark)
 
 -- the components of a partition before what stands behind them
 abbrev pub keyed : Vals → RestText → PutText
@@ -56,12 +56,12 @@ abbrev pub key_at : Columns → Option ℕ → Read (Marked PutText)
 key_at s = paired keyed (marked_list s.partition) (rest_by s s.static_value)
 
 -- a put, without spaces before
-abbrev pub put_at : Columns → Option ℕ → Read (Marked PutText)
-put_at s = paired (λ _ p. p) (unmarked (token true (codes "put"))) (key_at s)
+abbrev pub put_line_at : Columns → Option ℕ → Read (Marked PutText)
+put_line_at s = paired (λ _ p. p) (unmarked (token true (codes "put"))) (key_at s)
 
 -- a put on a whole line, and the first number of it that passes its type
 abbrev pub whole_put : Columns → List ℕ → Result (Marked PutText) ℕ
-whole_put s line = whole (then_read spaces_at (λ _. put_at s None)) line
+whole_put s line = whole (then_read spaces_at (λ _. put_line_at s None)) line
 
 -- ---- a line
 

@@ -4,7 +4,8 @@ use Rattle.std.specs.Str.{is_utf8}
 use Rattle.key_types.specs.Kinds.{Kinds, Val, bytes, Vals}
 use Rattle.key_types.specs.Table.{Entry}
 use Rattle.byte_comparable.specs.Encoding.{key_string}
-use Rattle.key_types.specs.Columns.{Columns}
+use Rattle.byte_comparable.specs.Strings.{longest_string}
+use Rattle.key_types.specs.Columns.{Columns, longest_value}
 use Rattle.script_text.specs.Puts.{Put}
 use Rattle.script_text.specs.declared.script.Batch.{Batch}
 use Rattle.script_text.specs.declared.script.Script.{Script}
@@ -24,9 +25,9 @@ abbrev pub ◌>>=◌ : {A B E : Type 0} → Result A E → (A → Result B E) �
 (Ok x) >>= f = f x
 (Err e) >>= f = Err e
 
--- a string of at most 1,024 bytes
+-- a string that isn't too long
 abbrev pub short_key : List ℕ → Result (List ℕ) LineCause
-short_key string = if nat_lt 1024 (length string) then Err (KeyTooLong (length string)) else Ok string
+short_key string = if nat_lt longest_string (length string) then Err (KeyTooLong (length string)) else Ok string
 
 -- the string of key values
 abbrev pub key_of : Kinds → Vals → Result (List ℕ) LineCause
@@ -38,20 +39,20 @@ row_key ts (Some vs) = key_of ts vs
 row_key ts None = Ok []
 
 -- the bytes of a text or blob
-abbrev pub bytes_in : Val → List ℕ
-bytes_in (bytes b) = b
-bytes_in _ = []
+abbrev pub value_bytes : Val → List ℕ
+value_bytes (bytes b) = b
+value_bytes _ = []
 
--- a value of at most 65,535 bytes
+-- a value that isn't too long
 abbrev pub short_value : List ℕ → Result (List ℕ) LineCause
-short_value v = if nat_lt 65535 (length v) then Err (ValueTooLong (length v)) else Ok v
+short_value v = if nat_lt longest_value (length v) then Err (ValueTooLong (length v)) else Ok v
 
 -- the put with its strings, or the first of them that is too long
 abbrev pub put_of : Columns → ℕ → PutText → Result Put LineCause
 put_of s line p = do
   partition ← key_of s.partition p.partition
   clustering ← row_key s.clustering p.clustering
-  value ← short_value (bytes_in p.value)
+  value ← short_value (value_bytes p.value)
   Ok (record { line = line; partition = partition; clustering = clustering; value = value })
 
 -- where there is a put
@@ -89,10 +90,17 @@ abbrev pub one_batch : Result (List Put) ScriptError → Result Script ScriptErr
 one_batch (Ok puts) = Ok (record { batches = record { puts = puts; gets = [] } ∷ []; puts = length puts })
 one_batch (Err e) = Err e
 
--- what the bytes spell under a schema of these columns: too large with over 67,108,864 bytes or 1,000,000 lines, which is asked first
+-- the greatest length of a script, in bytes, and the greatest count of its lines
+abbrev pub most_bytes : ℕ
+most_bytes = 67108864
+
+abbrev pub most_lines : ℕ
+most_lines = 1000000
+
+-- what the bytes spell under a schema of these columns: too large with too many bytes or lines, which is asked first
 abbrev pub script_of : Columns → List ℕ → Result Script ScriptError
 script_of s bs =
-    if nat_lt 67108864 (length bs) || nat_lt 1000000 (length (lines_of bs)) then Err TooLarge
+    if nat_lt most_bytes (length bs) || nat_lt most_lines (length (lines_of bs)) then Err TooLarge
     else one_batch (puts_from s 1 (lines_of bs))
 
 -- all puts of a script in the order of their lines
@@ -101,14 +109,14 @@ puts_of [] = []
 puts_of (batch ∷ batches) = batch.puts ++ puts_of batches
 
 -- the key string of a put, which for a static value is that of its partition, and its value
-abbrev pub entry_of : Put → Entry
-entry_of put = (put.partition ++ put.clustering, put.value)
+abbrev pub entry_of_put : Put → Entry
+entry_of_put put = (put.partition ++ put.clustering, put.value)
 
 -- those of several puts
 abbrev pub entries_of : List Put → List Entry
-entries_of puts = map entry_of puts
+entries_of puts = map entry_of_put puts
 
 -- the answer is what is expected, unless memory ran out
-abbrev pub Answers : {X : Type 0} → Result X ScriptError → Result X ScriptError → Type 0
-Answers (Err NoMemory) expected = Unit {0}
-Answers result expected = result ≡ expected
+abbrev pub AnswersScript : {X : Type 0} → Result X ScriptError → Result X ScriptError → Type 0
+AnswersScript (Err NoMemory) expected = Unit {0}
+AnswersScript result expected = result ≡ expected

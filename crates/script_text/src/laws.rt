@@ -1,5 +1,6 @@
 //! Laws over the definitions of scripts.
-ghost use Rattle.script_text.specs.Laws.{ReadsLines, SpelledAreAccepted};
+ghost use Rattle.script_text.specs.Laws.{EntriesAscend, ReadsLines, SpelledAreAccepted};
+ghost use Rattle.script_text.specs.Meaning.{ScriptMeaning};
 
 /// A line is read as what it says exactly where the grammar has it and its numbers are of their types, and else
 /// the first cause is told with its exact place.
@@ -7,7 +8,19 @@ pub fn law_put_lines()
     ensures { ReadsLines }
 {}
 
-/// The puts of a script are of its schema, and there are at most 1,000,000.
+/// The puts of a script are of its schema, and there are at most `MOST_LINES`.
 pub fn law_accepted_puts()
     ensures { SpelledAreAccepted }
+{}
+
+/// The entries of the sorted map of an accepted script ascend by the order of their typed keys, a static key first in
+/// its partition.
+pub fn law_entries_ascend()
+    ensures { EntriesAscend }
+{}
+
+/// What bytes say as a script by the grammar of lines is what `script_of` computes of them; where they say a script, or
+/// that they are too many, it computes no other.
+pub fn law_script_meaning()
+    ensures { ScriptMeaning }
 {}

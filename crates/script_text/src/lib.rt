@@ -9,6 +9,6 @@ mod script;
 #[cfg(test)]
 mod tests;
 
-pub use laws::{law_accepted_puts, law_put_lines};
-pub use reader::read_script;
+pub use laws::{law_accepted_puts, law_entries_ascend, law_put_lines, law_script_meaning};
+pub use reader::{MOST_BYTES, MOST_LINES, read_script};
 pub use script::{Batch, BatchList, Get, GetList, LineCause, Put, PutList, Script, ScriptError};

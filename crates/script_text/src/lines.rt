@@ -1,3 +1,4 @@
+//! The lines of a script, as slices of its bytes.
 ghost use Rattle.std.specs.Prelude.{◌≡◌, ◌<◌, ◌∷◌, [], length, nat_lt, ◌==◌, ◌≢◌, ◌+◌, take, drop, IfNone, IfSome};
 ghost use Rattle.std.specs.List.{position_from};
 ghost use Rattle.script_text.specs.Lines.{lines_of};

@@ -1,11 +1,11 @@
 //! Lines that put, read from the front of bytes. The strings of their keys are spelled while they are read.
 ghost use Rattle.std.specs.Prelude.{◌≡◌, List, Option, ℕ};
-ghost use Rattle.grammar.specs.Code.{Gives};
+ghost use Rattle.grammar.specs.Code.{Gives, GivesSome};
 ghost use Rattle.key_types.specs.Columns.{Columns, columns_of};
 ghost use Rattle.key_text.specs.Marking.{marked_at};
 ghost use Rattle.script_text.specs.Grammar.{value_kind};
-ghost use Rattle.script_text.specs.Reading.{set_at, row_at, static_at, rest_by, put_at, whole_put};
-ghost use Rattle.script_text.specs.Parts.{GivesOne, GivesWhole, IsPutOf, IsRestOf, value_with};
+ghost use Rattle.script_text.specs.Reading.{set_at, row_rest_at, static_at, rest_by, put_line_at, whole_put};
+ghost use Rattle.script_text.specs.Parts.{IsPutOf, IsRestOf, value_with};
 
 use grammar::{Stop, read_sign, read_word, skip_spaces};
 use key_spelling::spell_list;
@@ -49,19 +49,19 @@ fn read_set(alloc: Global, kind: ValueType, bytes: &[u8]) -> Result<(ValueBytes,
 fn read_row<'a>(
     alloc: Global,
     schema: &Schema,
-    outside: &mut Option<usize>,
+    out_of_range: &mut Option<usize>,
     bytes: &'a [u8],
     key: &mut KeyBytes,
 ) -> Result<(ValueBytes, &'a [u8]), Stop>
-    ensures { GivesOne (λ rest x. IsRestOf (columns_of schema.now) rest key.old key.new x.0) (λ x. x.1.now) outside.new result (row_at (columns_of schema.now) outside.old bytes.now) }
+    ensures { GivesSome (λ a x. ((a, out_of_range.new), x.1.now)) (λ rest x. IsRestOf (columns_of schema.now) rest key.old key.new x.0) result (row_rest_at (columns_of schema.now) out_of_range.old bytes.now) }
 {
-    let rest = spell_list(alloc, &schema.clustering, outside, bytes, key)?;
+    let rest = spell_list(alloc, &schema.clustering, out_of_range, bytes, key)?;
     read_set(alloc, schema.value, rest)
 }
 
 /// The word `static`, and what the static value is set to.
 fn read_static(alloc: Global, kind: ValueType, bytes: &[u8]) -> Result<(ValueBytes, &[u8]), Stop>
-    ensures { (columns : Columns) (mark : Option ℕ) (key : List ℕ) → GivesOne (λ rest x. IsRestOf columns rest key key x.0) (λ x. x.1.now) mark result (static_at kind mark bytes.now) }
+    ensures { (columns : Columns) (mark : Option ℕ) (key : List ℕ) → GivesSome (λ a x. ((a, mark), x.1.now)) (λ rest x. IsRestOf columns rest key key x.0) result (static_at kind mark bytes.now) }
 {
     let (_, rest) = read_word(b"static", bytes)?;
     read_set(alloc, kind, rest)
@@ -71,16 +71,16 @@ fn read_static(alloc: Global, kind: ValueType, bytes: &[u8]) -> Result<(ValueByt
 fn read_rest<'a>(
     alloc: Global,
     schema: &Schema,
-    outside: &mut Option<usize>,
+    out_of_range: &mut Option<usize>,
     bytes: &'a [u8],
     key: &mut KeyBytes,
 ) -> Result<(ValueBytes, &'a [u8]), Stop>
-    ensures { GivesOne (λ rest x. IsRestOf (columns_of schema.now) rest key.old key.new x.0) (λ x. x.1.now) outside.new result
-        (rest_by (columns_of schema.now) schema.now.static_value outside.old bytes.now) }
+    ensures { GivesSome (λ a x. ((a, out_of_range.new), x.1.now)) (λ rest x. IsRestOf (columns_of schema.now) rest key.old key.new x.0) result
+        (rest_by (columns_of schema.now) schema.now.static_value out_of_range.old bytes.now) }
 {
     match (schema.static_value, bytes) {
         (Some(kind), [byte, ..]) if *byte != b'(' => read_static(alloc, kind, bytes),
-        _ => read_row(alloc, schema, outside, bytes, key),
+        _ => read_row(alloc, schema, out_of_range, bytes, key),
     }
 }
 
@@ -88,16 +88,16 @@ fn read_rest<'a>(
 fn read_put<'a>(
     alloc: Global,
     schema: &Schema,
-    outside: &mut Option<usize>,
+    out_of_range: &mut Option<usize>,
     bytes: &'a [u8],
 ) -> Result<(PutLine, &'a [u8]), Stop>
-    ensures { GivesOne (λ put x. IsPutOf (columns_of schema.now) put x.0) (λ x. x.1.now) outside.new result (put_at (columns_of schema.now) outside.old bytes.now) }
+    ensures { GivesSome (λ a x. ((a, out_of_range.new), x.1.now)) (λ put x. IsPutOf (columns_of schema.now) put x.0) result (put_line_at (columns_of schema.now) out_of_range.old bytes.now) }
 {
     let (_, rest) = read_word(b"put", bytes)?;
     let mut key = KeyBytes::from_vec(Vec::with_capacity(alloc, ROOM)?);
-    let rest = spell_list(alloc, &schema.partition, outside, rest, &mut key)?;
+    let rest = spell_list(alloc, &schema.partition, out_of_range, rest, &mut key)?;
     let split = key.len();
-    let (value, rest) = read_rest(alloc, schema, outside, rest, &mut key)?;
+    let (value, rest) = read_rest(alloc, schema, out_of_range, rest, &mut key)?;
     Ok((PutLine { key, split, value }, rest))
 }
 
@@ -107,12 +107,12 @@ pub fn read_whole(
     schema: &Schema,
     line: &[u8],
 ) -> Result<(PutLine, Option<usize>), Stop>
-    ensures { GivesWhole (λ put x. IsPutOf (columns_of schema.now) put x.0) (λ x. x.1) result (whole_put (columns_of schema.now) line.now) }
+    ensures { GivesSome (λ a x. (a, x.1)) (λ put x. IsPutOf (columns_of schema.now) put x.0) result (whole_put (columns_of schema.now) line.now) }
 {
-    let mut outside = None;
-    let (put, rest) = read_put(alloc, schema, &mut outside, skip_spaces(line))?;
+    let mut out_of_range = None;
+    let (put, rest) = read_put(alloc, schema, &mut out_of_range, skip_spaces(line))?;
     match rest {
-        [] => Ok((put, outside)),
+        [] => Ok((put, out_of_range)),
         _ => Err(Stop::At(rest.len())),
     }
 }

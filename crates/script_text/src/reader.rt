@@ -1,25 +1,25 @@
 //! A script, read line by line.
 ghost use Rattle.std.specs.Prelude.{◌≡◌, ◌≤◌, ◌∷◌, ◌++◌, [], length, Ok, Err, IfOk, IfErr, OnOk};
 ghost use Rattle.key_types.specs.Columns.{columns_of};
-ghost use Rattle.script_text.specs.Parts.{put_with, Sees};
+ghost use Rattle.script_text.specs.Parts.{put_with, SeesPut};
+ghost use Rattle.script_text.specs.Meaning.{ReadsScript};
 ghost use Rattle.script_text.specs.Reading.{is_comment, is_blank, line_of};
-ghost use Rattle.script_text.specs.Script.{at_line, short_key, short_value, put_on, in_front, puts_from, script_of, Answers};
+ghost use Rattle.script_text.specs.Script.{most_lines, at_line, short_key, short_value, put_on, in_front, puts_from, script_of, AnswersScript};
 ghost use Rattle.script_text.specs.Lines.{lines_of};
 
 use crate::lines::{first_line, over};
 use crate::puts::{PutLine, read_whole};
 use crate::script::{Batch, LineCause, Put, PutList, Script, ScriptError};
+use byte_comparable::LONGEST_STRING;
 use grammar::Stop;
-use key_types::{ListOf, NoMemory, Schema, is_text};
+use key_types::{LONGEST_VALUE, ListOf, NoMemory, Schema, is_text};
 use std::alloc::Global;
 
-const MOST_BYTES: usize = 67_108_864;
+/// The greatest length of a script, in bytes.
+pub const MOST_BYTES: usize = 67_108_864;
 
-const MOST_LINES: usize = 1_000_000;
-
-const LONGEST_KEY: usize = 1024;
-
-const LONGEST_VALUE: usize = 65_535;
+/// The greatest count of lines of a script.
+pub const MOST_LINES: usize = 1_000_000;
 
 /// Whether the line is a comment: two dashes, and anything behind them.
 fn is_comment(line: &[u8]) -> bool
@@ -46,7 +46,7 @@ fn read_line(
     line: u32,
     text: &[u8],
 ) -> Result<Option<PutLine>, ScriptError>
-    ensures { Sees (columns_of schema.now) result (at_line line (line_of (columns_of schema.now) text.now)) }
+    ensures { SeesPut (columns_of schema.now) result (at_line line (line_of (columns_of schema.now) text.now)) }
 {
     if is_comment(text) || is_blank(text) {
         return Ok(None);
@@ -66,18 +66,18 @@ fn read_line(
     }
 }
 
-/// Whether the string of a part of a key has at most 1,024 bytes.
+/// Whether the string of a part of a key isn't too long.
 fn short_key(line: u32, string: &[u8]) -> Result<(), ScriptError>
     ensures ok { IfOk result (λ _. short_key string.now ≡ Ok string.now) }
     ensures err { IfErr result (λ error. at_line line (short_key string.now) ≡ Err error) }
 {
-    if string.len() > LONGEST_KEY {
+    if string.len() > LONGEST_STRING {
         return Err(ScriptError::BadLine(line, LineCause::KeyTooLong(string.len())));
     }
     Ok(())
 }
 
-/// Whether a value has at most 65,535 bytes.
+/// Whether a value isn't too long.
 fn short_value(line: u32, value: &[u8]) -> Result<(), ScriptError>
     ensures ok { IfOk result (λ _. short_value value.now ≡ Ok value.now) }
     ensures err { IfErr result (λ error. at_line line (short_value value.now) ≡ Err error) }
@@ -91,7 +91,7 @@ fn short_value(line: u32, value: &[u8]) -> Result<(), ScriptError>
 /// The put of a line's strings and its value, where none is too long.
 fn accept(line: u32, put: PutLine) -> Result<Put, ScriptError>
     requires { put.split ≤ length put.key }
-    ensures { Answers result (at_line line (put_with line put)) }
+    ensures { AnswersScript result (at_line line (put_with line put)) }
 {
     let (partition, clustering) = put.key.as_slice().split_at(put.split);
     short_key(line, partition)?;
@@ -107,7 +107,7 @@ fn read_put(
     line: u32,
     text: &[u8],
 ) -> Result<Option<Put>, ScriptError>
-    ensures { Answers result (at_line line (put_on (columns_of schema.now) line text.now)) }
+    ensures { AnswersScript result (at_line line (put_on (columns_of schema.now) line text.now)) }
 {
     if !is_text(text) {
         return Err(ScriptError::BadLine(line, LineCause::NotUtf8));
@@ -135,8 +135,8 @@ fn add(puts: &mut PutList, put: Option<Put>) -> Result<(), NoMemory>
 /// The puts of all lines.
 #[tactic(auto, using(crate::proofs::Listed::behind_one_more))]
 fn read_lines(alloc: Global, schema: &Schema, bytes: &[u8]) -> Result<PutList, ScriptError>
-    requires { length (lines_of bytes.now) ≤ 1000000 }
-    ensures { Answers result (puts_from (columns_of schema.now) 1 (lines_of bytes.now)) }
+    requires { length (lines_of bytes.now) ≤ most_lines }
+    ensures { AnswersScript result (puts_from (columns_of schema.now) 1 (lines_of bytes.now)) }
 {
     let mut puts = ListOf::new(alloc);
     let mut rest = bytes;
@@ -164,12 +164,23 @@ fn script_with(alloc: Global, puts: PutList) -> Result<Script, NoMemory>
     })
 }
 
+/// The script as it is computed of the bytes.
+fn spell_script(alloc: Global, schema: &Schema, bytes: &[u8]) -> Result<Script, ScriptError>
+    ensures { AnswersScript result (script_of (columns_of schema.now) bytes.now) }
+{
+    if bytes.len() > MOST_BYTES || over(MOST_LINES, bytes) {
+        return Err(ScriptError::TooLarge);
+    }
+    let puts = read_lines(alloc, schema, bytes)?;
+    Ok(script_with(alloc, puts)?)
+}
+
 /// Reads the script that the bytes spell, under the schema.
 ///
 /// A line is `put`, the components of a partition, those of a row within it, `=` and a value; where the schema has
 /// a static type also `put`, the components of a partition, `static`, `=` and a value. Lines of spaces alone and
 /// lines that begin with `--` are passed over. The script's gets go to its readers in turn; the grammar of today has
-/// puts alone. Refusals: `TooLarge` exactly with over 67,108,864 bytes or 1,000,000 lines, else `BadLine` exactly
+/// puts alone. Refusals: `TooLarge` exactly with more than `MOST_BYTES` or `MOST_LINES`, else `BadLine` exactly
 /// with the first line that isn't accepted and the first of its causes.
 pub fn read_script(
     alloc: Global,
@@ -177,11 +188,8 @@ pub fn read_script(
     _readers: u32,
     bytes: &[u8],
 ) -> Result<Script, ScriptError>
-    ensures { Answers result (script_of (columns_of schema.now) bytes.now) }
+    ensures meaning { ReadsScript (columns_of schema.now) bytes.now result }
+    ensures computed { AnswersScript result (script_of (columns_of schema.now) bytes.now) }
 {
-    if bytes.len() > MOST_BYTES || over(MOST_LINES, bytes) {
-        return Err(ScriptError::TooLarge);
-    }
-    let puts = read_lines(alloc, schema, bytes)?;
-    Ok(script_with(alloc, puts)?)
+    spell_script(alloc, schema, bytes)
 }

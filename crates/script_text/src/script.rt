@@ -3,6 +3,7 @@ ghost use Rattle.std.specs.Prelude.{◌≡◌, ◌≤◌, ◌++◌, take, drop, 
 
 use key_types::{KeyBytes, ListOf, NoMemory, ValueBytes};
 use std::marker::Model;
+use thiserror::Error;
 
 /// A row, or the static value of a partition, that a line puts. Contracts see it as the `Put` of its parts.
 #[derive(Debug, Drop)]
@@ -89,26 +90,36 @@ pub struct Script {
 }
 
 /// Why a line isn't accepted. Places and lengths count bytes from the start of the line.
-#[derive(Clone, Copy, Debug, PartialEq, Eq)]
+#[derive(Clone, Copy, Debug, PartialEq, Eq, Error)]
 pub enum LineCause {
+    /// The line is no UTF-8.
+    #[error("not UTF-8")]
     NotUtf8,
     /// The length of the longest beginning of the line that begins a line of the grammar.
+    #[error("bad text at {0}")]
     BadText(usize),
     /// The place of the first number that its type doesn't have.
+    #[error("number out of range at {0}")]
     OutOfRange(usize),
-    /// The length of a key string over 1,024 bytes.
+    /// The length of a key string that is too long.
+    #[error("the key's string would have {0} bytes")]
     KeyTooLong(usize),
-    /// The length of a value over 65,535 bytes.
+    /// The length of a value that is too long.
+    #[error("the value has {0} bytes")]
     ValueTooLong(usize),
 }
 
 /// Why bytes are no script.
-#[derive(Clone, Copy, Debug, PartialEq, Eq)]
+#[derive(Clone, Copy, Debug, PartialEq, Eq, Error)]
 pub enum ScriptError {
     /// The first line that isn't accepted, counted from 1, and its cause.
+    #[error("line {0}: {1}")]
     BadLine(u32, LineCause),
-    /// Over 67,108,864 bytes or 1,000,000 lines.
+    /// It has too many bytes, or too many lines.
+    #[error("too large")]
     TooLarge,
+    /// Memory ran out.
+    #[error("out of memory")]
     NoMemory,
 }
 

@@ -1,3 +1,4 @@
+//! Vectors of scripts and of their refusals.
 use super::*;
 use key_types::Schema;
 use schema_text::read_schema;

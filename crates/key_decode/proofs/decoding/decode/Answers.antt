@@ -3,7 +3,7 @@ use Rattle.key_types.specs.Kinds.{kind_of, value_of, Fits}
 use Rattle.byte_comparable.specs.Encoding.{encoding}
 use Rattle.key_types.specs.declared.kinds.Value.{Value}
 use Rattle.key_decode.specs.declared.decoding.DecodeError.{DecodeError}
-use Rattle.key_decode.specs.Shapes.{Decodes, Refuses}
+use Rattle.key_decode.specs.Shapes.{Decodes, RefusesBytes}
 use Rattle.key_decode.proofs.Flipped.{seen_bytes}
 use Rattle.key_decode.proofs.Whole.{value_found, value_only, value_left, value_refused, value_refuses, never}
 use Rattle.key_decode.proofs.decoding.decode.Goals as goal
@@ -41,4 +41,4 @@ returns-in-Err-At-clause-exact c =
 pub returns-in-Err-At-clause-refused : goal.returns-in-Err-At-clause-refused
 returns-in-Err-At-clause-refused c =
     let kind = kind_of c.args.kind.now in
-    subst (λ (d : DecodeError). Refuses {X = Value} (encoding kind) (Fits kind) c.args.bytes.now (Err d)) (sym c.refusal.ensures) (value_refuses kind c.args.bytes.now c.in-Err-At.left (rw c.in-Err-At.field-0-is at c.in-Err-At.ensures))
+    subst (λ (d : DecodeError). RefusesBytes {X = Value} (encoding kind) (Fits kind) c.args.bytes.now (Err d)) (sym c.refusal.ensures) (value_refuses kind c.args.bytes.now c.in-Err-At.left (rw c.in-Err-At.field-0-is at c.in-Err-At.ensures))

@@ -3,7 +3,7 @@ use Rattle.key_types.specs.Kinds.{kinds_of, values_of, EachFits}
 use Rattle.byte_comparable.specs.Encoding.{key_string}
 use Rattle.key_types.specs.declared.kinds.ValueList.{ValueList}
 use Rattle.key_decode.specs.declared.decoding.DecodeError.{DecodeError}
-use Rattle.key_decode.specs.Shapes.{DecodesAll, Refuses}
+use Rattle.key_decode.specs.Shapes.{DecodesAll, RefusesBytes}
 use Rattle.key_decode.proofs.Flipped.{seen_bytes}
 use Rattle.key_decode.proofs.Whole.{values_found, values_only, values_left, values_refused, values_refuses, never}
 use Rattle.key_decode.proofs.decoding.decode_all.Goals as goal
@@ -41,4 +41,4 @@ returns-in-Err-At-clause-exact c =
 pub returns-in-Err-At-clause-refused : goal.returns-in-Err-At-clause-refused
 returns-in-Err-At-clause-refused c =
     let kind = kinds_of c.args.kinds.now in
-    subst (λ (d : DecodeError). Refuses {X = ValueList} (key_string kind) (EachFits kind) c.args.bytes.now (Err d)) (sym c.refusal.ensures) (values_refuses kind c.args.bytes.now c.in-Err-At.left (rw c.in-Err-At.field-0-is at c.in-Err-At.ensures))
+    subst (λ (d : DecodeError). RefusesBytes {X = ValueList} (key_string kind) (EachFits kind) c.args.bytes.now (Err d)) (sym c.refusal.ensures) (values_refuses kind c.args.bytes.now c.in-Err-At.left (rw c.in-Err-At.field-0-is at c.in-Err-At.ensures))

@@ -28,4 +28,4 @@ returns-clause-gives c =
     let n = c.in_ok-number.number in
     let small : n < 2 ^ 32 = omega (arith, c.in_ok-number.ensures.below) in
     let same : to_z w64 (of_z w64 (to_z w64 n -ℤ to_z w64 (of_z w64 c.from.result))) ≡ lowered c.args.half n = omega (arith, ints) in
-    ap (mapped (λ (m : ℕ). number (lowered c.args.half m))) c.in_ok-number.ensures.gives ∙ ap (λ (x : ℤ). Ok (number x, seen c.args.turned c.in_ok-number.rest.now)) (sym same)
+    ap (mapped (λ (m : ℕ). number (lowered c.args.half m))) c.in_ok-number.ensures.gives ∙ ap (λ (x : ℤ). Ok (number x, seen c.args.complemented c.in_ok-number.rest.now)) (sym same)

@@ -22,6 +22,6 @@ pub loop-digit-preserved : goal.loop-digit-preserved
 loop-digit-preserved c =
     let r = more c.args.digits.now c.loop-digit.digit-index c.args.number c.loop-digit.number c.from.result c.loop-digit-test.true c.loop-digit.invariant.room c.requires (omega (arith, c.seen_byte.ensures.byte)) in
     record {
-      read = digit_next c.args.turned c.args.digits.now c.loop-digit.digit-index _ c.from.result c.loop-digit.number c.loop-digit-test.true refl (rw c.from.ensures c.seen_byte.ensures.seen) ∙ c.loop-digit.invariant.read;
+      read = digit_next c.args.complemented c.args.digits.now c.loop-digit.digit-index _ c.from.result c.loop-digit.number c.loop-digit-test.true refl (rw c.from.ensures c.seen_byte.ensures.seen) ∙ c.loop-digit.invariant.read;
       room = omega (arith, r.within, c.loop-digit.invariant.room);
     }

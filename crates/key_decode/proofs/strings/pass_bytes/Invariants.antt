@@ -5,7 +5,7 @@ use Rattle.key_decode.proofs.Plain.{left_of}
 use Rattle.key_decode.proofs.strings.pass_bytes.Given as goal
 
 abbrev pub invariant-bytes : goal.invariant-bytes
-invariant-bytes l = left_of (at l.place (seen l.turned l.rest)) ≡ left_of (text_at (seen l.turned l.bytes))
+invariant-bytes l = left_of (at l.place (seen l.complemented l.rest)) ≡ left_of (text_at (seen l.complemented l.bytes))
 
 abbrev pub decreases-bytes : goal.decreases-bytes
 decreases-bytes l = length l.rest

@@ -10,5 +10,5 @@ pub read_value-returns-in-Reversed : goal.read_value-returns-in-Reversed
 read_value-returns-in-Reversed t c =
     let inner = kind_of c.deref.result.now in
     let kind : kind_of c.args.kind.now ≡ reversed inner = search rules in
-    subst (λ (k : Kind). Gives (λ (x : Value × Bor (List ℕ)). (value_of x.0, seen c.args.turned x.1.now)) c.read_value.result (value_at k (seen c.args.turned c.args.bytes.now))) (sym kind)
-    (turned_gives (λ (x : Value × Bor (List ℕ)). value_of x.0) (λ (x : Value × Bor (List ℕ)). x.1.now) (value_at inner) c.args.turned c.flipped.result c.flipped.ensures c.args.bytes.now c.read_value.result c.read_value.ensures)
+    subst (λ (k : Kind). Gives (λ (x : Value × Bor (List ℕ)). (value_of x.0, seen c.args.complemented x.1.now)) c.read_value.result (value_at k (seen c.args.complemented c.args.bytes.now))) (sym kind)
+    (turned_gives (λ (x : Value × Bor (List ℕ)). value_of x.0) (λ (x : Value × Bor (List ℕ)). x.1.now) (value_at inner) c.args.complemented c.flipped.result c.flipped.ensures c.args.bytes.now c.read_value.result c.read_value.ensures)

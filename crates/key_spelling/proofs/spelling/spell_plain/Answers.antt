@@ -6,5 +6,5 @@ use Rattle.key_spelling.proofs.spelling.spell_plain.Goals as goal
 
 pub encode_into-requires : goal.encode_into-requires
 encode_into-requires c =
-    let read : marked_at (kind_of c.args.kind.now) c.args.outside.now c.args.bytes.now ≡ Ok ((value_of c.in_ok-value.value, c.read_marked.new.outside), c.in_ok-value.rest.now) = search rules in
-    plain_fits (kind_of c.args.kind.now) c.args.outside.now c.read_marked.new.outside c.args.bytes.now c.in_ok-value.rest.now (value_of c.in_ok-value.value) c.requires read
+    let read : marked_at (kind_of c.args.kind.now) c.args.out_of_range.now c.args.bytes.now ≡ Ok ((value_of c.in_ok-value.value, c.read_marked.new.out_of_range), c.in_ok-value.rest.now) = search rules in
+    plain_fits (kind_of c.args.kind.now) c.args.out_of_range.now c.read_marked.new.out_of_range c.args.bytes.now c.in_ok-value.rest.now (value_of c.in_ok-value.value) c.requires read
