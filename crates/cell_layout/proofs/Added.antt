@@ -133,7 +133,7 @@ taken_same v w (suc (suc (suc (suc zero)))) l h = let a = h 0 (omega arith) in l
 taken_same v w (suc (suc (suc (suc (suc zero))))) l h = let a = h 0 (omega arith) in let b = h 1 (omega arith) in let c = h 2 (omega arith) in let d = h 3 (omega arith) in let e = h 4 (omega arith) in cc
 taken_same v w (suc (suc (suc (suc (suc (suc n)))))) l h = absurd (omega arith)
 
-in_range : (n : ℕ) → All (λ s. s < n) (range_with_len 0 n)
+pub in_range : (n : ℕ) → All (λ s. s < n) (range_with_len 0 n)
 in_range n k d l = let inside : k < n = omega (arith, length-range_with_len 0 n) in omega (arith, get_or-range_with_len 0 n k d inside)
 
 rest_of : (P : ℕ → Type 0) (x : ℕ) (xs : List ℕ) → All P (x ∷ xs) → All P xs
@@ -151,7 +151,7 @@ lacks_byte w b n [] h a = tt
 lacks_byte w b n (d ∷ ds) h a = (h d (first_of_all (λ s. s < n) d ds a), lacks_byte w b n ds h (rest_of (λ s. s < n) d ds a))
 
 -- a byte that isn't found is in no taken slot
-absent : (w b : ℕ) → child_count w ≤ 6 → slot_at w b ≡ None → (j : ℕ) → j < child_count w → byte_of w j ≢ b
+pub absent : (w b : ℕ) → child_count w ≤ 6 → slot_at w b ≡ None → (j : ℕ) → j < child_count w → byte_of w j ≢ b
 unfolding slot_at
 absent w b six n j l z = let k : j < length (child_bytes w) = omega (arith, length-child_bytes w six) in
     eqb-false (get_or (child_bytes w) j 0) b (missed (λ (x : ℕ). x == b) 0 (child_bytes w) j n k) ((byte_at w j k).2 ∙ z)

@@ -5,3 +5,7 @@ pub mod Inserted
 pub mod Added
 pub mod PointerKinds
 pub mod Halves
+pub mod Numbers
+pub mod CellBytes
+pub mod WordsAt
+pub mod Ordered

@@ -1,4 +1,5 @@
 pub mod Words
 pub mod Pointers
 pub mod Slots
+pub mod Cells
 pub mod Laws

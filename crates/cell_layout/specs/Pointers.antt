@@ -3,7 +3,7 @@ use Rattle.std.specs.Prelude.{ℕ, ◌-◌, ◌/◌, ◌%◌, ◌^◌, ◌==◌,
 use Rattle.cell_layout.specs.declared.Kind.{Kind}
 use Rattle.cell_layout.specs.declared.Kind.TheVariants.{Nothing, Content, Chain, Sparse, Wide, Prefix}
 
--- what an offset from 0 to 31 names: a byte of a chain cell, a wide, sparse or prefix cell; 29 names nothing
+-- what an offset from 0 to 31 names: a byte of a chain cell, a cell of a split node, a sparse or a prefix cell; 29 names nothing
 abbrev pub kind_at_offset : ℕ → Option Kind
 kind_at_offset o =
     if nat_le o 27 then Some Chain

@@ -1,5 +1,5 @@
 -- The halves and bytes of a 64-bit word, little-endian. This project's own.
-use Rattle.std.specs.Prelude.{ℕ, ◌+◌, ◌*◌, ◌/◌, ◌%◌, ◌^◌, Bool, true, false}
+use Rattle.std.specs.Prelude.{ℕ, ◌+◌, ◌*◌, ◌/◌, ◌%◌, ◌^◌, ◌<◌, Bool, true, false, List, slice_index}
 
 -- the low or the high half of a word
 abbrev pub half_of : ℕ → Bool → ℕ
@@ -18,3 +18,7 @@ byte_of word i = word / 2 ^ (8 * i) % 256
 -- the word with byte i changed
 abbrev pub with_byte : ℕ → ℕ → ℕ → ℕ
 with_byte word i b = word / 2 ^ (8 * i + 8) * 2 ^ (8 * i + 8) + b * 2 ^ (8 * i) + word % 2 ^ (8 * i)
+
+-- each number is a byte; past the end there are zeros
+abbrev pub AreBytes : List ℕ → Type 0
+AreBytes xs = (i : ℕ) → slice_index xs i < 256

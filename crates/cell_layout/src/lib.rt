@@ -7,10 +7,15 @@
 ghost use Rattle.std.specs.Prelude.{◌≡◌, ◌%◌, ◌≤◌, true, false, not};
 ghost use Rattle.cell_layout.specs.Words.{half_of, with_half_of, byte_of};
 ghost use Rattle.cell_layout.specs.Pointers.{kind_at, index_at};
-ghost use Rattle.cell_layout.specs.Laws.{LawNextByte, LawSplitIndices, LawSlots};
+ghost use Rattle.cell_layout.specs.Laws.{LawNextByte, LawSplitIndices, LawSlots, LawOrdered};
 
+mod cells;
 mod sparse;
 
+pub use cells::{
+    branch_cell, chain_cell, joined, lone_cell, padded_cell, prefix_cell, word_of_chain,
+    word_of_record, word_of_value,
+};
 pub use sparse::{sparse_add, sparse_count, sparse_find, sparse_ordered};
 
 /// A pointer of a cell: 0 is none, a number from 2^31 up is content, any other is `32 * cell + offset`.
@@ -134,6 +139,12 @@ pub fn law_split_indices()
 /// A slot that is found has the byte, is one of the children's, and no slot before it has the byte.
 pub fn law_slots()
     ensures { LawSlots }
+{}
+
+/// The children that a node's order word names, in ascending order of their bytes, are exactly those that are found by their
+/// bytes, each in the same slot.
+pub fn law_ordered()
+    ensures { LawOrdered }
 {}
 
 #[cfg(test)]

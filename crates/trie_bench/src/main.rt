@@ -6,10 +6,10 @@
 ghost use Rattle.std.specs.Prelude.{◌<◌, ◌≤◌};
 
 use key_types::NoMemory;
+use owned_image::Image;
 use std::alloc::Global;
 use std::process::ExitCode;
 use std::{env, io};
-use trie_image::owned::Image;
 
 /// So many keys at most.
 const MOST: u32 = 1_000_000;
@@ -31,7 +31,7 @@ fn build(alloc: Global, count: u32) -> Result<Option<Image>, NoMemory>
         if !image.takes(&key, &value) {
             return Ok(None);
         }
-        image.put(alloc, &key, &value)?;
+        image.put(&key, &value);
     }
     Ok(Some(image))
 }

@@ -3,10 +3,11 @@ use Rattle.std.proofs.Common.{◌≡◌, ◌≢◌, ℕ, zero, suc, ◌+◌, ◌
 use Rattle.std.proofs.lemmas.Bool.{eqb-false, ltb-false, cond-true, cond-false, ne_eqb, cases_eq}
 use Rattle.cell_layout.specs.declared.Kind.{Kind}
 use Rattle.cell_layout.specs.declared.Kind.TheVariants as kind
-use Rattle.cell_layout.specs.Words.{half_of}
+use Rattle.cell_layout.specs.Words.{half_of, AreBytes}
 use Rattle.cell_layout.specs.Pointers.{kind_at, record_cell}
 use Rattle.cell_layout.specs.Slots.{slot_at}
 use Rattle.cell_layout.proofs.PointerKinds.{is_kind}
+use Rattle.cell_layout.proofs.CellBytes.{byte_there}
 use Rattle.trie_image.specs.declared.Role.{Role}
 use Rattle.trie_image.specs.declared.Role.TheVariants.{Root, Chain, Order, Slot, Top, Mid, Leaf, Prefix, Head}
 use Rattle.trie_image.specs.declared.Place.{Place}
@@ -21,7 +22,7 @@ use Rattle.trie_image.specs.Paths.{owner, HasPath}
 use Rattle.trie_image.specs.Cell.{IsSparseCell, IsTopCell, IsMidCell, IsLeafCell, IsPrefixCell, IsCell, IsImage}
 use Rattle.trie_image.specs.Place.{place_at, node_place, follow_by, follow, content_place, prefix_step, slot_step, inward, node_step, step_of, outcome_of, IsPlaceAt, IsPlace, role_sees, place_sees, word_at, next_word_of}
 use Rattle.trie_image.specs.Laws.{Answers}
-use Rattle.trie_image.proofs.Owners.{content_of, sparse_of, wide_of, prefix_of}
+use Rattle.trie_image.proofs.Owners.{content_of, sparse_of, split_node_of, prefix_of}
 use Rattle.trie_image.proofs.Readings.{sees_none, sees_there}
 use Rattle.trie_image.proofs.Children.{closed}
 use Rattle.trie_image.proofs.Falls.{get_inside}
@@ -59,7 +60,7 @@ drop_past [] (suc i) h = refl
 drop_past (x ∷ xs) zero h = absurd (omega arith)
 drop_past (x ∷ xs) (suc i) h = drop_past xs i (omega arith)
 
-module _ (w : List ℕ) (g : Ledger) (key : List ℕ) (each : (c : ℕ) (o : _) → owner g c ≡ Some o → IsCell w g c o) (bytes : (i b : ℕ) → slice_get key i ≡ Some b → b < 256) (few : (n : ℕ) (put : Put) → slice_get g.puts n ≡ Some put → n + 1 < 2 ^ 32) where
+module _ (w : List ℕ) (g : Ledger) (key : List ℕ) (each : (c : ℕ) (o : _) → owner g c ≡ Some o → IsCell w g c o) (bytes : AreBytes key) (few : (n : ℕ) (put : Put) → slice_get g.puts n ≡ Some put → n + 1 < 2 ^ 32) where
   abbrev Goes : Option ℕ → Advance → Type 0
   Goes o a = Answers w g key o a
 
@@ -177,13 +178,13 @@ module _ (w : List ℕ) (g : Ledger) (key : List ℕ) (each : (c : ℕ) (o : _) 
       (subst (λ (x : Option Kind). Goes (sees (reading w) n (drop taken key)) (node_place key n taken x (slice_get key taken))) (sym f) (node_follows n taken k f a c at))
 
   top_goes : (p taken b : ℕ) → kind_at p ≡ Some kind.Wide → HasPath g p (take taken key) → slice_get key taken ≡ Some b → Goes (sees (reading w) p (drop taken key)) (inward Mid (field w (p / 32) (b / 64)) b taken)
-  top_goes p taken b e at next = let m : ℕ = field w (p / 32) (b / 64) in let small : b < 256 = bytes taken b next in
-      let ok : IsTopCell w g (p / 32) (take taken key) = each (p / 32) (TopCell (take taken key)) (wide_of g p (take taken key) at e) in
+  top_goes p taken b e at next = let m : ℕ = field w (p / 32) (b / 64) in let small : b < 256 = byte_there key taken b bytes next in
+      let ok : IsTopCell w g (p / 32) (take taken key) = each (p / 32) (TopCell (take taken key)) (split_node_of g p (take taken key) at e) in
       let child : child_of w p b (Some kind.Wide) ≡ mid_child w m b = cond-true (nat_lt b 256) (mid_child w m b) 0 (lt-ltb b 256 small) in
       let before : sees (reading w) p (drop taken key) ≡ sees_from (reading w) (mid_child w m b) (drop (taken + 1) key) = sees_key_on p taken b (Some kind.Wide) e next ∙ ap (λ (x : ℕ). sees_from (reading w) x (drop (taken + 1) key)) child in
       inward_goes Mid (sees (reading w) p (drop taken key)) m b taken
       (λ z. before ∙ none_from (mid_child w m b) (taken + 1) (mid_none m b z))
-      (λ ne. ((p / 32, ok.mids (b / 64) (omega arith) ne, wide_of g p (take taken key) at e, next), ap (λ (x : ℕ). sees_from (reading w) x (drop (taken + 1) key)) (sym (mid_some m b ne)) ∙ sym before))
+      (λ ne. ((p / 32, ok.mids (b / 64) (omega arith) ne, split_node_of g p (take taken key) at e, next), ap (λ (x : ℕ). sees_from (reading w) x (drop (taken + 1) key)) (sym (mid_some m b ne)) ∙ sym before))
 
   mid_goes : (m taken b : ℕ) → IsPlaceAt w g key m b taken Mid → Goes (role_sees w key m b taken Mid) (inward Leaf (field w (m / 32) (b / 8 % 8)) b taken)
   mid_goes m taken b (t, o, top, next) = let l : ℕ = field w (m / 32) (b / 8 % 8) in
@@ -193,7 +194,7 @@ module _ (w : List ℕ) (g : Ledger) (key : List ℕ) (each : (c : ℕ) (o : _) 
       (λ ne. ((t, ok.leaves (b / 8 % 8) (omega arith) ne, top, next), ap (λ (x : ℕ). sees_from (reading w) x (drop (taken + 1) key)) (sym (leaf_some l b ne))))
 
   leaf_goes : (l taken b : ℕ) → IsPlaceAt w g key l b taken Leaf → Goes (role_sees w key l b taken Leaf) (follow key (field w (l / 32) (b % 8)) (taken + 1))
-  leaf_goes l taken b (t, o, top, next) = let small : b < 256 = bytes taken b next in let inside : taken < length key = get_inside key taken b next in
+  leaf_goes l taken b (t, o, top, next) = let small : b < 256 = byte_there key taken b bytes next in let inside : taken < length key = get_inside key taken b next in
       let ok : IsLeafCell w g (l / 32) t (b / 64) (b / 8 % 8) = each (l / 32) (LeafCell t (b / 64) (b / 8 % 8)) o in
       let same : 64 * (b / 64) + 8 * (b / 8 % 8) + b % 8 ≡ b = omega arith in
       follow_goes (field w (l / 32) (b % 8)) (taken + 1) (omega arith) (λ ne. subst (HasPath g (field w (l / 32) (b % 8))) (ap (λ (x : ℕ). take taken key ++ x ∷ []) same ∙ sym (take_next key taken b next)) (ok.children (b % 8) (take taken key) (omega arith) ne top))
@@ -234,4 +235,4 @@ module _ (w : List ℕ) (g : Ledger) (key : List ℕ) (each : (c : ℕ) (o : _) 
 
 pub advances : (w : List ℕ) (g : Ledger) (cells : ℕ) (key : List ℕ) (pl : Place) → IsImage w g cells → IsPlace w g key pl → Answers w g key (place_sees w key pl) (outcome_of pl (slice_index w (next_word_of pl)) key)
 unfolding outcome_of
-advances w g cells key pl ok place = steps w g key ok.each place.bytes (λ n put e. let l = get_within g.puts n put e in omega (arith, ok.fewer, ok.room, ok.small)) pl.ptr pl.part pl.taken pl.role ok.root place.role
+advances w g cells key pl ok place = steps w g key ok.each place.bytes (λ n put e. let l = get_within g.puts n put e in omega (arith, ok.fewer, ok.capacity, ok.small)) pl.ptr pl.part pl.taken pl.role ok.root place.role

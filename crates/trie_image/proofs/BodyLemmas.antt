@@ -1,55 +1,14 @@
 -- Steps of the loops that make the words of a put's cells.
-use Rattle.std.proofs.Common.{◌≡◌, ◌≢◌, ℕ, zero, suc, ◌+◌, ◌-◌, ◌*◌, ◌^◌, ◌<◌, ◌≤◌, Bool, true, false, cond, List, [], ◌∷◌, ◌++◌, length, take, drop, map, filter, count_by, refl, sym, ap, ◌∙◌, arith, append_assoc, append-nil, add-one, get_or, replicate, ◌==◌, ne_eqb}
+use Rattle.std.proofs.Common.{◌≡◌, ◌≢◌, ℕ, zero, suc, ◌+◌, ◌*◌, Bool, true, false, cond, List, [], ◌∷◌, ◌++◌, filter, count_by, refl, sym, ap, ◌∙◌, arith, append_assoc, append-nil, add-one, get_or, replicate, ◌==◌, ne_eqb}
 use Rattle.std.proofs.lemmas.Bool.{cond-false}
 use Rattle.std.proofs.lemmas.List.Sums.{sum_by-append}
 use Rattle.std.proofs.lemmas.List.Elements.{filter-append}
 use Rattle.std.proofs.lemmas.Grind.{flat_map-append}
-use Rattle.cell_layout.proofs.Inserted.{range_more}
 use Rattle.std.specs.List.{range_with_len, flat_map}
-use Rattle.std.proofs.lemmas.List.FromFn.{map-range_with_len_more}
+use Rattle.cell_layout.proofs.Inserted.{range_more}
+use Rattle.cell_layout.specs.Cells.{chain_cell, eight}
 use Rattle.trie_image.specs.declared.exit.Stand.{Stand}
-use Rattle.trie_image.specs.Body.{chain_cell, padded, chain_from, next_cell, passed_bytes, passed_words, has_mid, has_leaf, mids_below, leaves_below, eight, mid_field, leaf_field, mid_words, leaf_words}
-
-pow_small : (n : ℕ) → n ≤ 7 → 256 ^ n ≤ 2 ^ 56
-pow_small zero l = omega arith
-pow_small (suc zero) l = omega arith
-pow_small (suc (suc zero)) l = omega arith
-pow_small (suc (suc (suc zero))) l = omega arith
-pow_small (suc (suc (suc (suc zero)))) l = omega arith
-pow_small (suc (suc (suc (suc (suc zero))))) l = omega arith
-pow_small (suc (suc (suc (suc (suc (suc zero)))))) l = omega arith
-pow_small (suc (suc (suc (suc (suc (suc (suc zero))))))) l = omega arith
-pow_small (suc (suc (suc (suc (suc (suc (suc (suc n)))))))) l = absurd (omega arith)
-
--- a number of at most seven bytes has room for one more
-pub number_fits : (n r : ℕ) → r < 256 ^ n → n ≤ 7 → 256 * r + 255 < 2 ^ 64
-number_fits n r h l = omega (arith, pow_small n l)
-
--- one more word of a list that is made word by word
-pub word_more : (f : ℕ → ℕ) (new out start : List ℕ) (word i : ℕ) → new ≡ out ++ word ∷ [] → out ≡ start ++ map f (range_with_len 0 i) → word ≡ f i → new ≡ start ++ map f (range_with_len 0 (i + 1))
-word_more f new out start word i e h is = e ∙ (ap (λ (x : List ℕ). x ++ word ∷ []) h ∙ (append_assoc start (map f (range_with_len 0 i)) (word ∷ [])
-    ∙ ap (λ (x : List ℕ). start ++ x) (ap (λ (x : ℕ). map f (range_with_len 0 i) ++ x ∷ []) is ∙ sym (map-range_with_len_more f 0 i i (omega arith)))))
-
--- one more cell of a chain
-chain_next : (out new : List ℕ) (f m : ℕ) (rest part after : List ℕ) (next end : ℕ) → new ≡ out ++ chain_cell (padded part) next → part ≡ take (length rest - 28 * m) rest → after ≡ drop (length rest - 28 * m) rest → next ≡ next_cell f m end
-    → new ++ chain_from (f + 1) m after end ≡ out ++ chain_from f (suc m) rest end
-chain_next out new f m rest part after next end e front back is = ap (λ (x : List ℕ). x ++ chain_from (f + 1) m after end) e ∙ (append_assoc out (chain_cell (padded part) next) (chain_from (f + 1) m after end)
-    ∙ ap (λ (x : List ℕ). out ++ x) (ap (λ (x : List ℕ). chain_cell (padded x) next ++ chain_from (f + 1) m after end) front
-    ∙ (ap (λ (x : ℕ). chain_cell (padded (take (length rest - 28 * m) rest)) x ++ chain_from (f + 1) m after end) is
-    ∙ ap (λ (x : List ℕ). chain_cell (padded (take (length rest - 28 * m) rest)) (next_cell f m end) ++ chain_from (f + 1) m x end) back)))
-
-pub chain_more : (out new : List ℕ) (f left : ℕ) (rest part after : List ℕ) (next end : ℕ) → 0 < left → new ≡ out ++ chain_cell (padded part) next → part ≡ take (length rest - 28 * (left - 1)) rest → after ≡ drop (length rest - 28 * (left - 1)) rest → next ≡ next_cell f (left - 1) end
-    → new ++ chain_from (f + 1) (left - 1) after end ≡ out ++ chain_from f left rest end
-chain_more out new f left rest part after next end some_ e front back is = let s : suc (left - 1) ≡ left = omega arith in
-    chain_next out new f (left - 1) rest part after next end e front back is ∙ ap (λ (n : ℕ). out ++ chain_from f n rest end) s
-
-pub next_last : (f n end : ℕ) → n ≡ 0 → end ≡ next_cell f n end
-next_last f zero end e = refl
-next_last f (suc n) end e = absurd (omega arith)
-
-pub next_other : (f n end : ℕ) → n ≢ 0 → 32 * (f + 1) ≡ next_cell f n end
-next_other f zero end ne = absurd (ne refl)
-next_other f (suc n) end ne = refl
+use Rattle.trie_image.specs.Body.{passed_bytes, passed_words, has_mid, has_leaf, mids_below, leaves_below, mid_field, leaf_field, mid_words, leaf_words}
 
 pub zeros : (n i : ℕ) → ◌≡◌ {A = ℕ} (get_or (replicate n 0) i 0) 0
 zeros zero i = refl

@@ -6,6 +6,9 @@ use Rattle.cell_layout.specs.declared.Kind.TheVariants as kind
 use Rattle.cell_layout.specs.Pointers.{kind_at}
 use Rattle.cell_layout.specs.Slots.{slot_at}
 use Rattle.cell_layout.proofs.PointerKinds.{is_kind, is_chain}
+use Rattle.cell_layout.specs.Cells.{record_cells, record_words, chain_cells, chain_from, branch_words, prefix_words}
+use Rattle.cell_layout.specs.Words.{AreBytes}
+use Rattle.cell_layout.proofs.WordsAt.{length_chain, length_record_words}
 use Rattle.trie_image.specs.declared.Owner.TheVariants.{HeadCell, ChainCell, SparseCell, PrefixCell}
 use Rattle.trie_image.specs.declared.Ledger.{Ledger}
 use Rattle.trie_image.specs.declared.exit.Stand.{Stand}
@@ -13,23 +16,22 @@ use Rattle.trie_image.specs.declared.exit.Exit.{Exit}
 use Rattle.trie_image.specs.Reading.{Reading, Reads, Better}
 use Rattle.trie_image.specs.Image.{word_of, field, cell_byte, slot_child, reading}
 use Rattle.trie_image.specs.Paths.{owner, HasPath}
-use Rattle.trie_image.specs.Cell.{record_cells, IsChainCell, IsSparseCell, IsImage}
+use Rattle.trie_image.specs.Cell.{IsChainCell, IsSparseCell, IsImage}
 use Rattle.trie_image.specs.Same.{SameWords}
-use Rattle.trie_image.specs.Body.{record_words, chain_cells, chain_from, chain_rest, split_words, passed_words, prefix_words, wide_words, leaf_field, over_passed, further}
+use Rattle.trie_image.specs.Body.{chain_rest, passed_words, split_node_words, leaf_field, over_passed, further}
 use Rattle.trie_image.specs.Stores.{content_of, entry_of, first_further, body_words}
 use Rattle.trie_image.proofs.Owners.{chain_of, sparse_of}
 use Rattle.trie_image.proofs.Kept.{same_byte, same_field, own_inside}
 use Rattle.trie_image.proofs.Betters.{under_bytes}
-use Rattle.trie_image.proofs.BodyLengths.{length_chain, length_split}
-use Rattle.trie_image.proofs.CellWords.{Stands, stands_front, stands_back, AreBytes}
-use Rattle.trie_image.proofs.NewCells.{length_record_words}
-use Rattle.trie_image.proofs.NewWide.{path_small}
+use Rattle.trie_image.proofs.BodyLengths.{length_branch}
+use Rattle.trie_image.proofs.CellWords.{Stands, stands_front, stands_back}
+use Rattle.trie_image.proofs.NewSplitNode.{path_small}
 use Rattle.trie_image.proofs.NewCases.{rest_path}
 use Rattle.trie_image.proofs.Homes.{Home, root, tail, slot, leaf, content, node}
 use Rattle.trie_image.proofs.Leaves.{StandsAt, MetContent, MetNothing, MetOtherByte, MetEnd, MetFull, MetPastContent}
 use Rattle.trie_image.proofs.Exits.{IsNode, node_nonzero}
 use Rattle.trie_image.proofs.Chains.{new_chain_reads}
-use Rattle.trie_image.proofs.Published.{better_entry, better_same, better_past, better_under, better_split, old_reads, passed_reads, better_wide}
+use Rattle.trie_image.proofs.Published.{better_entry, better_same, better_past, better_under, better_split, old_reads, passed_reads, better_split_node}
 use Rattle.trie_image.proofs.Turned.{Turned, same_apart, apart_of}
 
 -- a pointer that reads bytes and is then one that isn't 0
@@ -77,7 +79,7 @@ module _ (w w' : List ℕ) (used number : ℕ) (value rest : List ℕ) (e : Exit
       subst (λ (x : ℕ). Stands w' x more) at (stands_back w' used (record_cells (length value) + chain_cells (length rest)) (r ++ c) more long h)
 
 -- the new chain
-module _ (used : ℕ) (value rest : List ℕ) (low : 1 ≤ used) (room : first_further used value rest ≤ 2 ^ 22) where
+module _ (used : ℕ) (value rest : List ℕ) (low : 1 ≤ used) (capacity : first_further used value rest ≤ 2 ^ 22) where
   pub entry_small : entry_of used value rest < 2 ^ 32
   entry_small = ⊎_elim (λ (z : length rest ≡ 0). subst (λ (p : ℕ). p < 2 ^ 32) (sym (cond-true (length rest == 0) (content_of used) (32 * (used + record_cells (length value)) + (28 * chain_cells (length rest) - length rest)) (eq-eqb (length rest) 0 z))) (omega arith))
       (λ (ne : length rest ≢ 0). subst (λ (p : ℕ). p < 2 ^ 32) (sym (cond-false (length rest == 0) (content_of used) (32 * (used + record_cells (length value)) + (28 * chain_cells (length rest) - length rest)) (ne_eqb (length rest) 0 ne))) (omega arith)) (cases_eq (length rest) 0)
@@ -90,7 +92,7 @@ module _ (used : ℕ) (value rest : List ℕ) (low : 1 ≤ used) (room : first_f
   entry_reads w' bytes h = new_chain_reads w' (used + record_cells (length value)) rest (content_of used) h (omega arith) (omega arith) bytes
 
 -- the cases of a pointer that is turned in the walk's field
-module _ (w w' : List ℕ) (g : Ledger) (cells : ℕ) (ok : IsImage w g cells) (s : Stand) (p' : ℕ) (t : Turned w w' (length g.owners) s.cell s.field p') (used x entry : ℕ) (low : 1 ≤ x) (room : x + 64 < 2 ^ 26) (few : used < 2 ^ 31) (small : entry < 2 ^ 32) where
+module _ (w w' : List ℕ) (g : Ledger) (cells : ℕ) (ok : IsImage w g cells) (s : Stand) (p' : ℕ) (t : Turned w w' (length g.owners) s.cell s.field p') (used x entry : ℕ) (low : 1 ≤ x) (capacity : x + 64 < 2 ^ 26) (few : used < 2 ^ 31) (small : entry < 2 ^ 32) where
   -- a chain cell that the walk met is as it was
   chain_same : (q m path : List ℕ) → StandsAt w g q m path s → kind_at s.at ≡ Some kind.Chain → SameWords w w' (s.at / 32)
   chain_same q m path h k = let offset : (s.at ≢ 0) × (s.at < 2 ^ 31) × (s.at % 32 ≤ 27) = is_kind s.at (Some kind.Chain) k in let i = chain_of g s.at path (h.at_path offset.0) k in
@@ -107,17 +109,17 @@ module _ (w w' : List ℕ) (g : Ledger) (cells : ℕ) (ok : IsImage w g cells) (
       (λ (k : kind_at s.at ≡ Some kind.Chain). let offset : (s.at ≢ 0) × (s.at < 2 ^ 31) × (s.at % 32 ≤ 27) = is_kind s.at (Some kind.Chain) k in
       old_reads w w' s m h.forward h.offset h.bytes (reads_nonzero (reading w) s.entered s.at m h.reads ne) offset.1 offset.2 (λ o l. same_byte w w' (s.at / 32) o (chain_same q m path h k) (omega arith))) h.plain
 
-  pub other_better : (key : List ℕ) (taken : ℕ) (m : MetOtherByte w g key s taken) → m.byte < 256 → Stands w' x (split_words (cell_byte w (s.at / 32) (s.at % 32)) (chain_rest w s.at) m.byte entry ++ passed_words w s (32 * x + 30)) → Reads (reading w') entry m.rest (content_of used)
+  pub other_better : (key : List ℕ) (taken : ℕ) (m : MetOtherByte w g key s taken) → m.byte < 256 → Stands w' x (branch_words (cell_byte w (s.at / 32) (s.at % 32)) (chain_rest w s.at) m.byte entry ++ passed_words w s (32 * x + 30)) → Reads (reading w') entry m.rest (content_of used)
       → Better (reading w') s.entered (over_passed s x 30) (m.inside ++ m.byte ∷ m.rest) used
   other_better key taken m sb h reads = let st = m.stands in let k = m.is_chain in let old : ℕ = cell_byte w (s.at / 32) (s.at % 32) in
       let offset : (s.at ≢ 0) × (s.at < 2 ^ 31) × (s.at % 32 ≤ 27) = is_kind s.at (Some kind.Chain) k in
       let same = chain_same m.home_path m.inside m.path st k in let byte : cell_byte w' (s.at / 32) (s.at % 32) ≡ old = same_byte w w' (s.at / 32) (s.at % 32) same (omega (arith, offset.2)) in
       let rest_same : chain_rest w' s.at ≡ chain_rest w s.at = ap (λ (y : ℕ). cond (s.at % 32 == 27) y (cond (nat_lt (s.at % 32) 27) (s.at + 1) 0)) (same_field w w' (s.at / 32) 7 same (omega arith)) in
       let fits : chain_rest w s.at < 2 ^ 32 = path_small g (chain_rest w s.at) _ ok.head (rest_path w g cells ok s.at m.path (st.at_path offset.0) k) in
-      let split : List ℕ = split_words (cell_byte w (s.at / 32) (s.at % 32)) (chain_rest w s.at) m.byte entry in
-      let stands : Stands w' x (split_words (cell_byte w (s.at / 32) (s.at % 32)) (chain_rest w' s.at) m.byte entry) = subst (λ (y : ℕ). Stands w' x (split_words (cell_byte w (s.at / 32) (s.at % 32)) y m.byte entry)) (sym rest_same) (stands_front w' x split (passed_words w s (32 * x + 30)) h) in
+      let split : List ℕ = branch_words (cell_byte w (s.at / 32) (s.at % 32)) (chain_rest w s.at) m.byte entry in
+      let stands : Stands w' x (branch_words (cell_byte w (s.at / 32) (s.at % 32)) (chain_rest w' s.at) m.byte entry) = subst (λ (y : ℕ). Stands w' x (branch_words (cell_byte w (s.at / 32) (s.at % 32)) y m.byte entry)) (sym rest_same) (stands_front w' x split (passed_words w s (32 * x + 30)) h) in
       under_bytes (reading w') m.inside (m.byte ∷ m.rest) s.entered (over_passed s x 30) s.at (32 * x + 30) used (reads_here m.home_path m.inside m.path st offset.0)
-      (passed_reads w w' s m.inside st.forward st.offset st.bytes x 30 (omega arith) low (omega arith) offset.2 (stands_back w' x 1 split (passed_words w s (32 * x + 30)) (length_split (cell_byte w (s.at / 32) (s.at % 32)) (chain_rest w s.at) m.byte entry) h))
+      (passed_reads w w' s m.inside st.forward st.offset st.bytes x 30 (omega arith) low (omega arith) offset.2 (stands_back w' x 1 split (passed_words w s (32 * x + 30)) (length_branch (cell_byte w (s.at / 32) (s.at % 32)) (chain_rest w s.at) m.byte entry) h))
       (better_split w' used few s.at k x old m.byte entry m.rest stands (sym byte) low (omega arith) (mod-lt _ (omega arith)) sb (subst (λ (y : ℕ). y < 2 ^ 32) (sym rest_same) fits) small m.other reads)
 
   pub end_better : (key : List ℕ) (m : MetEnd w g key s) → Stands w' x (prefix_words (content_of used) s.at ++ passed_words w s (32 * x + 31)) → Better (reading w') s.entered (over_passed s x 31) m.inside used
@@ -138,11 +140,11 @@ module _ (w w' : List ℕ) (g : Ledger) (cells : ℕ) (ok : IsImage w g cells) (
   unfolding leaf_field
   field_small b c d q own = cond_both (c == b) entry (slot_child w d (slot_at (word_of w d 3) c)) (λ (p : ℕ). p < 2 ^ 32) (λ e. small) (λ e. slot_fits c d q (ok.each d (SparseCell q) own) (slot_at (word_of w d 3) c) refl)
 
-  pub full_better : (key : List ℕ) (taken : ℕ) (m : MetFull w g key s taken) → m.byte < 256 → Stands w' x (wide_words w (s.at / 32) m.byte entry x) → Reads (reading w') entry m.rest (content_of used) → Better (reading w') s.entered (32 * x + 28) (m.byte ∷ m.rest) used
+  pub full_better : (key : List ℕ) (taken : ℕ) (m : MetFull w g key s taken) → m.byte < 256 → Stands w' x (split_node_words w (s.at / 32) m.byte entry x) → Reads (reading w') entry m.rest (content_of used) → Better (reading w') s.entered (32 * x + 28) (m.byte ∷ m.rest) used
   full_better key taken m sb h reads = let st = m.stands in let k = m.is_sparse in let at : HasPath g s.at m.path = st.at_path (is_kind s.at (Some kind.Sparse) k).0 in let own = sparse_of g s.at m.path at k in
       let same : SameWords w w' (s.at / 32) = same_apart w w' (length g.owners) s.cell s.field p' t (s.at / 32) (own_inside g.owners (s.at / 32) (SparseCell m.path) own) (apart_sparse w g cells ok m.path s.cell s.field st.home (s.at / 32) own) in
       subst (λ (p : ℕ). Better (reading w') p (32 * x + 28) (m.byte ∷ m.rest) used) (sym st.reads)
-      (better_wide w w' used few s.at m.byte entry x k same h low room sb (λ c. field_small m.byte c (s.at / 32) m.path own) m.rest m.absent reads)
+      (better_split_node w w' used few s.at m.byte entry x k same h low capacity sb (λ c. field_small m.byte c (s.at / 32) m.path own) m.rest m.absent reads)
 
   pub past_better : (key : List ℕ) (taken : ℕ) (m : MetPastContent w g key s taken) → IsNode entry → Stands w' x (prefix_words s.at entry) → Reads (reading w') entry (m.byte ∷ m.rest) (content_of used) → Better (reading w') s.entered (32 * x + 31) (m.byte ∷ m.rest) used
   past_better key taken m is_node h reads = let st = m.stands in let k = m.is_content in let at : HasPath g s.at m.path = st.at_path (λ z. let l = is_kind s.at (Some kind.Content) k in omega arith) in

@@ -2,12 +2,13 @@
 use Rattle.std.proofs.Common.{◌≡◌, ◌≢◌, ℕ, zero, suc, ◌+◌, ◌-◌, ◌*◌, ◌/◌, ◌%◌, ◌^◌, ◌<◌, ◌≤◌, ◌==◌, if◌then◌else◌, true, List, [], ◌∷◌, length, take, drop, slice_index, refl, sym, ap, ◌∙◌, subst, arith, eq-eqb, ne_eqb}
 use Rattle.std.proofs.lemmas.Bool.{cond-true, cond-false}
 use Rattle.std.proofs.lemmas.List.{length-take-le, length-drop, take-append-drop}
-use Rattle.cell_layout.specs.Words.{half_of, byte_of}
+use Rattle.cell_layout.specs.Words.{half_of, byte_of, AreBytes}
+use Rattle.cell_layout.specs.Cells.{chain_cell, padded, chain_cells, chain_from, chain_entry, next_cell}
+use Rattle.cell_layout.proofs.CellBytes.{bytes_taken, bytes_dropped, byte_of_chain_cell, tail_of_chain_cell, bytes_padded, padded_byte}
 use Rattle.trie_image.specs.Reading.{Reads}
 use Rattle.trie_image.specs.Image.{field, reading}
-use Rattle.trie_image.specs.Body.{chain_cell, padded, chain_cells, chain_from, chain_entry, next_cell}
 use Rattle.trie_image.proofs.Betters.{reads_on, cell_reads}
-use Rattle.trie_image.proofs.CellWords.{Stands, stands_front, stands_back, AreBytes, bytes_taken, bytes_dropped, byte_of_chain_cell, tail_of_chain_cell, bytes_padded, padded_byte}
+use Rattle.trie_image.proofs.CellWords.{Stands, stands_front, stands_back}
 
 module _ (w : List ℕ) where
   -- one cell, entered at the first of its bytes

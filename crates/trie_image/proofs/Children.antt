@@ -13,7 +13,7 @@ use Rattle.trie_image.specs.Reading.{Closed}
 use Rattle.trie_image.specs.Image.{word_of, field, cell_byte, chain_child, slot_child, leaf_child, mid_child, split_child, node_child, child_of, reading}
 use Rattle.trie_image.specs.Paths.{owner, chain_path, HasPath, at_chain}
 use Rattle.trie_image.specs.Cell.{IsChainCell, IsSparseCell, IsTopCell, IsMidCell, IsLeafCell, IsPrefixCell, IsCell}
-use Rattle.trie_image.proofs.Owners.{chain_of, sparse_of, wide_of, prefix_of}
+use Rattle.trie_image.proofs.Owners.{chain_of, sparse_of, split_node_of, prefix_of}
 
 -- the path of a chain pointer and the byte at its offset
 pub path_step : (t : List ℕ) (o : ℕ) → 28 ≤ length t + o → o ≤ 27 → take (suc (length t + o - 28)) t ≡ chain_path t o ++ slice_index t (length t + o - 28) ∷ []
@@ -68,7 +68,7 @@ module _ (w : List ℕ) (g : Ledger) (each : (c : ℕ) (o : Owner) → owner g c
   node_closed : (p : ℕ) (q : List ℕ) (b : ℕ) (k : Option Kind) → kind_at p ≡ k → HasPath g p q → Leads (q ++ b ∷ []) (node_child w p b k)
   node_closed p q b (Some Chain) k at = chain_closed p q b k at
   node_closed p q b (Some Sparse) k at = slot_closed (p / 32) q b (each (p / 32) (SparseCell q) (sparse_of g p q at k)) (slot_at (word_of w (p / 32) 3) b) refl
-  node_closed p q b (Some Wide) k at = split_closed (p / 32) q b (wide_of g p q at k) (each (p / 32) (TopCell q) (wide_of g p q at k))
+  node_closed p q b (Some Wide) k at = split_closed (p / 32) q b (split_node_of g p q at k) (each (p / 32) (TopCell q) (split_node_of g p q at k))
   node_closed p q b _ k at = no_child (q ++ b ∷ [])
 
   child_closed : (p : ℕ) (q : List ℕ) (b : ℕ) (k : Option Kind) → kind_at p ≡ k → HasPath g p q → Leads (q ++ b ∷ []) (child_of w p b k)

@@ -8,6 +8,7 @@ use Rattle.cell_layout.specs.declared.Kind.TheVariants as kind
 use Rattle.cell_layout.specs.Pointers.{kind_at}
 use Rattle.cell_layout.specs.Slots.{slot_at, child_count}
 use Rattle.cell_layout.proofs.PointerKinds.{is_kind, next_byte}
+use Rattle.cell_layout.specs.Words.{AreBytes}
 use Rattle.trie_image.specs.declared.Owner.{Owner}
 use Rattle.trie_image.specs.declared.Owner.TheVariants.{HeadCell, ChainCell, SparseCell, TopCell, MidCell, LeafCell, PrefixCell}
 use Rattle.trie_image.specs.declared.Ledger.{Ledger}
@@ -17,15 +18,14 @@ use Rattle.trie_image.specs.declared.exit.Step.{Step}
 use Rattle.trie_image.specs.declared.exit.Step.TheVariants.{On, Left}
 use Rattle.trie_image.specs.Reading.{Reading, Reads}
 use Rattle.trie_image.specs.Image.{word_of, field, cell_byte, chain_child, slot_child, leaf_child, mid_child, node_child, child_of, record_of, reading, root_of}
-use Rattle.trie_image.specs.Paths.{owner, HasPath, at_content, at_chain, at_sparse, at_wide, at_prefix}
+use Rattle.trie_image.specs.Paths.{owner, HasPath, at_content, at_chain, at_sparse, at_split, at_prefix}
 use Rattle.trie_image.specs.Cell.{IsChainCell, IsSparseCell, IsTopCell, IsMidCell, IsPrefixCell, IsImage}
 use Rattle.trie_image.specs.Body.{chain_rest}
 use Rattle.trie_image.specs.Exit.{stand_at, stand_in, end_at, chain_step, slot_step, leaf_step, mid_step, node_step, byte_step, exit_from, exit_at, exit_of}
-use Rattle.trie_image.proofs.Owners.{chain_of, sparse_of, wide_of, prefix_of, path_once}
+use Rattle.trie_image.proofs.Owners.{chain_of, sparse_of, split_node_of, prefix_of, path_once}
 use Rattle.trie_image.proofs.Children.{closed}
 use Rattle.trie_image.proofs.Betters.{reads_on}
 use Rattle.trie_image.proofs.Live.{Walks}
-use Rattle.trie_image.proofs.CellWords.{AreBytes}
 use Rattle.trie_image.proofs.Homes.{Over, itself, by_prefix, Reaches, IsMidUnder, IsSplitAt, Home, root, tail, slot, leaf, content, node}
 use Rattle.trie_image.proofs.Leaves.{StandsAt, LeavesBy, Leaves}
 
@@ -37,14 +37,14 @@ pub path_nonzero : (g : Ledger) (p : ℕ) (q : List ℕ) → HasPath g p q → p
 path_nonzero g p q (at_content n e k o h s) z = let l = is_kind p (Some kind.Content) k in omega arith
 path_nonzero g p q (at_chain from t k o h s) z = let l = (is_kind p (Some kind.Chain) k).0 in l z
 path_nonzero g p q (at_sparse k o) z = let l = (is_kind p (Some kind.Sparse) k).0 in l z
-path_nonzero g p q (at_wide k o) z = let l = (is_kind p (Some kind.Wide) k).0 in l z
+path_nonzero g p q (at_split k o) z = let l = (is_kind p (Some kind.Wide) k).0 in l z
 path_nonzero g p q (at_prefix k o) z = let l = (is_kind p (Some kind.Prefix) k).0 in l z
 
 no_kind_of : (g : Ledger) (p : ℕ) (q : List ℕ) → kind_at p ≡ None → HasPath g p q → ⊥
 no_kind_of g p q none (at_content n e k o h s) = cc
 no_kind_of g p q none (at_chain from t k o h s) = cc
 no_kind_of g p q none (at_sparse k o) = cc
-no_kind_of g p q none (at_wide k o) = cc
+no_kind_of g p q none (at_split k o) = cc
 no_kind_of g p q none (at_prefix k o) = cc
 
 -- a byte further
@@ -52,7 +52,7 @@ pub walks_on : (r : Reading) (bs : List ℕ) (a x b : ℕ) → Walks r a bs x �
 walks_on r [] a x b e ne = subst (λ (z : ℕ). (r.child z b ≢ 0) × (r.child z b ≡ r.child x b)) (sym e) (ne, refl)
 walks_on r (d ∷ bs) a x b (n, walk) ne = (n, walks_on r bs (r.child a d) x b walk ne)
 
--- a chain, sparse or wide pointer
+-- a chain, sparse or split node's pointer
 abbrev pub IsNode : ℕ → Type 0
 IsNode p = (kind_at p ≡ Some kind.Chain) ⊎ ((kind_at p ≡ Some kind.Sparse) ⊎ (kind_at p ≡ Some kind.Wide))
 
@@ -194,12 +194,12 @@ module _ (w : List ℕ) (g : Ledger) (cells : ℕ) (ok : IsImage w g cells) wher
             (ap (λ (x : Option Kind). node_child w s.at b x) k ∙ ap (λ (x : Option ℕ). slot_child w (s.at / 32) x) e)
         slot_steps None e = let cell : IsSparseCell w g (s.at / 32) path = ok.each (s.at / 32) (SparseCell path) (sparse_of g s.at path reached.node k) in let count : ℕ = child_count (word_of w (s.at / 32) 3) in
             steps_if (nat_lt count 6) (Left Sparse (stand_at (s.at / 32) 0 s.at)) (Left Full s)
-            (λ t key rest whole so_far. record { path = path; byte = b; rest = rest; whole = whole; so_far = so_far; reached = reached; is_sparse = k; here = refl; absent = e; room = ltb-true count 6 t })
+            (λ t key rest whole so_far. record { path = path; byte = b; rest = rest; whole = whole; so_far = so_far; reached = reached; is_sparse = k; here = refl; absent = e; capacity = ltb-true count 6 t })
             (λ t key rest whole so_far. record { path = path; byte = b; rest = rest; whole = whole; so_far = so_far; stands = plainly q m path s stands plain (λ z. let both : Some kind.Chain ≡ Some kind.Sparse = sym z ∙ k in cc); is_sparse = k; absent = e; full = let least = ltb-false count 6 t in omega (arith, cell.sparse.most) })
 
       module _ (k : kind_at s.at ≡ Some kind.Wide) where
         top : owner g (s.at / 32) ≡ Some (TopCell path)
-        top = wide_of g s.at path reached.node k
+        top = split_node_of g s.at path reached.node k
 
         is_split : IsSplitAt w g path b s.at (s.at / 32)
         is_split = record { small = small; reached = reached; kind = k; here = refl; own = top }
@@ -220,7 +220,7 @@ module _ (w : List ℕ) (g : Ledger) (cells : ℕ) (ok : IsImage w g cells) wher
             (split_led ∙ (cond-false (x == 0) 0 (leaf_child w y b) u ∙ cond-false (y == 0) 0 (field w (y / 32) (b % 8)) v))))
 
       no_node : (k : Option Kind) → kind_at s.at ≡ k → (k ≡ Some kind.Chain → ⊥) → (k ≡ Some kind.Sparse → ⊥) → (k ≡ Some kind.Wide → ⊥) → ⊥
-      no_node k e chain sparse wide = ⊎_elim (λ (is : kind_at s.at ≡ Some kind.Chain). chain (sym e ∙ is)) (λ t. ⊎_elim (λ (is : kind_at s.at ≡ Some kind.Sparse). sparse (sym e ∙ is)) (λ (is : kind_at s.at ≡ Some kind.Wide). wide (sym e ∙ is)) t) is_node
+      no_node k e chain sparse split = ⊎_elim (λ (is : kind_at s.at ≡ Some kind.Chain). chain (sym e ∙ is)) (λ t. ⊎_elim (λ (is : kind_at s.at ≡ Some kind.Sparse). sparse (sym e ∙ is)) (λ (is : kind_at s.at ≡ Some kind.Wide). split (sym e ∙ is)) t) is_node
 
       node_steps : (k : Option Kind) → kind_at s.at ≡ k → Steps (node_step w b s k)
       node_steps (Some kind.Chain) e = chain_steps e

@@ -1,7 +1,7 @@
 -- A put that adds a child to a sparse node: the words after its stores, and the image that the publishing one leaves.
 use Rattle.std.proofs.Common.{◌≡◌, ◌≢◌, ℕ, ◌+◌, ◌*◌, ◌/◌, ◌%◌, ◌^◌, ◌<◌, ◌≤◌, ◌==◌, List, [], ◌∷◌, ◌++◌, length, set, slice_index, Option, Some, None, refl, sym, ap, ◌∙◌, subst, inl, inr, ⊎_elim, arith, append_assoc, length-set, get_or-set_other, get_or-set_same}
 use Rattle.std.proofs.lemmas.Bool.{cases_eq}
-use Rattle.cell_layout.specs.Words.{half_of, with_half_of}
+use Rattle.cell_layout.specs.Words.{half_of, with_half_of, AreBytes}
 use Rattle.cell_layout.specs.Pointers.{kind_at}
 use Rattle.cell_layout.specs.Slots.{slot_at, child_count, word_with, AddsChild}
 use Rattle.cell_layout.proofs.Halves.{this_half}
@@ -22,12 +22,13 @@ use Rattle.trie_image.specs.Exit.{exit_with}
 use Rattle.trie_image.specs.Stores.{field_store, store_at, entry_of, cost}
 use Rattle.trie_image.specs.After.{after}
 use Rattle.trie_image.specs.Publish.{put_at, with_put, IsPublished}
+use Rattle.trie_image.specs.Puts.{IsValue}
 use Rattle.trie_image.proofs.Owners.{sparse_of, prefix_of}
 use Rattle.trie_image.proofs.Kept.{keeps, same_field, set_same, root_same, own_inside}
 use Rattle.trie_image.proofs.Homes.{Over, itself, by_prefix}
 use Rattle.trie_image.proofs.Exits.{over_children}
 use Rattle.trie_image.proofs.Leaves.{MetSparse}
-use Rattle.trie_image.proofs.CellWords.{Stands, AreBytes}
+use Rattle.trie_image.proofs.CellWords.{Stands}
 use Rattle.trie_image.proofs.NewOwners.{first_owners}
 use Rattle.trie_image.proofs.HomeChanges.{Publishes}
 use Rattle.trie_image.proofs.PutLedger.{ledger_after}
@@ -42,10 +43,10 @@ use Rattle.trie_image.proofs.Seen.{by_byte}
 use Rattle.trie_image.proofs.NewSplits.{AreNewOwners, none_new, both_new, first_new}
 use Rattle.trie_image.proofs.Whole.{KeepsCells, IsRecorded, changes_old, law, well_formed, places_kept}
 
-module _ (w : List ℕ) (g : Ledger) (cells : ℕ) (key value : List ℕ) (ok : IsWellFormed w g cells) (room : length g.owners + cost (length key) (length value) ≤ cells) (bytes : AreBytes key) (s : Stand) (taken : ℕ) (m : MetSparse w g key s taken) (short : length m.rest ≤ length key) where
+module _ (w : List ℕ) (g : Ledger) (cells : ℕ) (key value : List ℕ) (ok : IsWellFormed w g cells) (capacity : length g.owners + cost (length key) (length value) ≤ cells) (bytes : AreBytes key) (s : Stand) (taken : ℕ) (m : MetSparse w g key s taken) (short : length m.rest ≤ length key) where
   -- the words after the new cells, after the free slot, and after the order word
   abbrev pub made : List ℕ
-  made = ready w g cells key value ok.image room (exit_with meets.Sparse s taken) m.rest m.byte short
+  made = ready w g cells key value ok.image capacity (exit_with meets.Sparse s taken) m.rest m.byte short
 
   abbrev pub entry : ℕ
   entry = entry_of (length g.owners) value m.rest
@@ -59,59 +60,59 @@ module _ (w : List ℕ) (g : Ledger) (cells : ℕ) (key value : List ℕ) (ok : 
   abbrev pub ordered : List ℕ
   ordered = after slotted (store_at (4 * s.cell + 3) (word_with (word_of w s.cell 3) m.byte) Publish ∷ [])
 
-  own : owner g s.cell ≡ Some (SparseCell m.path)
+  pub own : owner g s.cell ≡ Some (SparseCell m.path)
   own = let r = m.reached in subst (λ (c : ℕ). owner g c ≡ Some (SparseCell m.path)) m.here (sparse_of g s.at m.path r.node m.is_sparse)
 
   inside : s.cell < length g.owners
   inside = own_inside g.owners s.cell (SparseCell m.path) own
 
   fits : entry < 2 ^ 32
-  fits = entry_small (length g.owners) value m.rest (first_cell w g cells key value ok.image room (exit_with meets.Sparse s taken) m.rest m.byte short) (let n = further_near w g cells key value ok.image room (exit_with meets.Sparse s taken) m.rest m.byte short in omega (arith, n))
+  fits = entry_small (length g.owners) value m.rest (first_cell w g cells key value ok.image capacity (exit_with meets.Sparse s taken) m.rest m.byte short) (let n = further_near w g cells key value ok.image capacity (exit_with meets.Sparse s taken) m.rest m.byte short in omega (arith, n))
 
   same_made : IsSame w made g
-  same_made = same w g cells key value ok.image room (exit_with meets.Sparse s taken) m.rest m.byte short
+  same_made = same w g cells key value ok.image capacity (exit_with meets.Sparse s taken) m.rest m.byte short
 
   word_made : (k : ℕ) → k < 4 → word_of made s.cell k ≡ word_of w s.cell k
-  word_made k l = below w g cells key value ok.image room (exit_with meets.Sparse s taken) m.rest m.byte short (4 * s.cell + k) (let i = inside in omega arith)
+  word_made k l = below w g cells key value ok.image capacity (exit_with meets.Sparse s taken) m.rest m.byte short (4 * s.cell + k) (let i = inside in omega arith)
 
   same_slotted : IsSame made slotted g
-  same_slotted = subst (λ (x : ℕ). IsSame made (set made (4 * s.cell + place / 2) (with_half_of x (place % 2 == 1) entry)) g) (word_made (place / 2) (let r = m.room in omega arith))
+  same_slotted = subst (λ (x : ℕ). IsSame made (set made (4 * s.cell + place / 2) (with_half_of x (place % 2 == 1) entry)) g) (word_made (place / 2) (let r = m.capacity in omega arith))
       (subst (λ (x : ℕ). IsSame made (set made (4 * s.cell + child_count x / 2) (with_half_of (word_of made s.cell (child_count x / 2)) (child_count x % 2 == 1) entry)) g) (word_made 3 (omega arith))
-      (free_next made g cells s.cell entry m.path ((keeps w made g cells ok.image same_made).0) own (subst (λ (x : ℕ). child_count x < 6) (sym (word_made 3 (omega arith))) m.room) fits))
+      (free_next made g cells s.cell entry m.path ((keeps w made g cells ok.image same_made).0) own (subst (λ (x : ℕ). child_count x < 6) (sym (word_made 3 (omega arith))) m.capacity) fits))
 
   -- the stores before the publishing one change nothing that a pointer with a path reads
   pub same_before : IsSame w slotted g
   same_before = same_trans w made slotted g same_made same_slotted
 
   far : 4 * length g.owners ≤ length made
-  far = long w g cells key value ok.image room (exit_with meets.Sparse s taken) m.rest m.byte short
+  far = long w g cells key value ok.image capacity (exit_with meets.Sparse s taken) m.rest m.byte short
 
   slot_is : field slotted s.cell place ≡ entry
-  slot_is = ap (λ (x : ℕ). half_of x (place % 2 == 1)) (get_or-set_same made (4 * s.cell + place / 2) (with_half_of (word_of w s.cell (place / 2)) (place % 2 == 1) entry) 0 (let r = m.room in let i = inside in omega (arith, far)))
+  slot_is = ap (λ (x : ℕ). half_of x (place % 2 == 1)) (get_or-set_same made (4 * s.cell + place / 2) (with_half_of (word_of w s.cell (place / 2)) (place % 2 == 1) entry) 0 (let r = m.capacity in let i = inside in omega (arith, far)))
       ∙ this_half (word_of w s.cell (place / 2)) entry (place % 2 == 1) fits
 
-  stands_slotted : Stands slotted (length g.owners) (body w g cells key value ok.image room (exit_with meets.Sparse s taken) m.rest m.byte short)
-  stands_slotted = still_stand made (length g.owners) (4 * s.cell + place / 2) (with_half_of (word_of w s.cell (place / 2)) (place % 2 == 1) entry) (body w g cells key value ok.image room (exit_with meets.Sparse s taken) m.rest m.byte short) (let r = m.room in let i = inside in omega arith)
-      (stands w g cells key value ok.image room (exit_with meets.Sparse s taken) m.rest m.byte short)
+  stands_slotted : Stands slotted (length g.owners) (body w g cells key value ok.image capacity (exit_with meets.Sparse s taken) m.rest m.byte short)
+  stands_slotted = still_stand made (length g.owners) (4 * s.cell + place / 2) (with_half_of (word_of w s.cell (place / 2)) (place % 2 == 1) entry) (body w g cells key value ok.image capacity (exit_with meets.Sparse s taken) m.rest m.byte short) (let r = m.capacity in let i = inside in omega arith)
+      (stands w g cells key value ok.image capacity (exit_with meets.Sparse s taken) m.rest m.byte short)
 
-  stands_ordered : Stands ordered (length g.owners) (body w g cells key value ok.image room (exit_with meets.Sparse s taken) m.rest m.byte short)
-  stands_ordered = still_stand slotted (length g.owners) (4 * s.cell + 3) (word_with (word_of w s.cell 3) m.byte) (body w g cells key value ok.image room (exit_with meets.Sparse s taken) m.rest m.byte short) (let i = inside in omega arith) stands_slotted
+  stands_ordered : Stands ordered (length g.owners) (body w g cells key value ok.image capacity (exit_with meets.Sparse s taken) m.rest m.byte short)
+  stands_ordered = still_stand slotted (length g.owners) (4 * s.cell + 3) (word_with (word_of w s.cell 3) m.byte) (body w g cells key value ok.image capacity (exit_with meets.Sparse s taken) m.rest m.byte short) (let i = inside in omega arith) stands_slotted
 
   -- what the new order word finds
   cell : IsSparseCell w g s.cell m.path
   cell = ok.image.each s.cell (SparseCell m.path) own
 
   adds : AddsChild (word_of w s.cell 3) (word_with (word_of w s.cell 3) m.byte) m.byte
-  adds = adds_child (word_of w s.cell 3) m.byte (sparse_fits (word_of w s.cell 3) cell.sparse) (bytes_after m.path (m.byte ∷ m.rest) key m.whole bytes 0) m.room cell.sparse m.absent
+  adds = adds_child (word_of w s.cell 3) m.byte (sparse_fits (word_of w s.cell 3) cell.sparse) (bytes_after m.path (m.byte ∷ m.rest) key m.whole bytes 0) m.capacity cell.sparse m.absent
 
   order_is : word_of ordered s.cell 3 ≡ word_with (word_of w s.cell 3) m.byte
   order_is = get_or-set_same slotted (4 * s.cell + 3) (word_with (word_of w s.cell 3) m.byte) 0 (let i = inside in let e = length-set made (4 * s.cell + place / 2) (with_half_of (word_of w s.cell (place / 2)) (place % 2 == 1) entry) in omega (arith, far, e))
 
   finds_new : slot_at (word_of ordered s.cell 3) m.byte ≡ Some place
-  finds_new = ap (λ (x : ℕ). slot_at x m.byte) order_is ∙ added_new (word_of w s.cell 3) (word_with (word_of w s.cell 3) m.byte) m.byte (let r = m.room in omega arith) adds.bytes m.absent
+  finds_new = ap (λ (x : ℕ). slot_at x m.byte) order_is ∙ added_new (word_of w s.cell 3) (word_with (word_of w s.cell 3) m.byte) m.byte (let r = m.capacity in omega arith) adds.bytes m.absent
 
   slot_ordered : field ordered s.cell place ≡ entry
-  slot_ordered = ap (λ (x : ℕ). half_of x (place % 2 == 1)) (get_or-set_other slotted (4 * s.cell + 3) (4 * s.cell + place / 2) (word_with (word_of w s.cell 3) m.byte) 0 (let r = m.room in λ z. omega arith)) ∙ slot_is
+  slot_ordered = ap (λ (x : ℕ). half_of x (place % 2 == 1)) (get_or-set_other slotted (4 * s.cell + 3) (4 * s.cell + place / 2) (word_with (word_of w s.cell 3) m.byte) 0 (let r = m.capacity in λ z. omega arith)) ∙ slot_is
 
   -- a cell other than the node's
   apart : (c : ℕ) → c ≢ s.cell → SameWords slotted ordered c
@@ -154,14 +155,14 @@ module _ (w : List ℕ) (g : Ledger) (cells : ℕ) (key value : List ℕ) (ok : 
   whole = append_assoc m.path (m.byte ∷ []) m.rest ∙ m.whole
 
   better : Better (reading ordered) 0 entry m.rest (length g.owners)
-  better = let far_ = first_cell w g cells key value ok.image room (exit_with meets.Sparse s taken) m.rest m.byte short in let near = further_near w g cells key value ok.image room (exit_with meets.Sparse s taken) m.rest m.byte short in
-      better_entry ordered (length g.owners) (few w g cells key value ok.image room (exit_with meets.Sparse s taken) m.rest m.byte short) entry m.rest
+  better = let far_ = first_cell w g cells key value ok.image capacity (exit_with meets.Sparse s taken) m.rest m.byte short in let near = further_near w g cells key value ok.image capacity (exit_with meets.Sparse s taken) m.rest m.byte short in
+      better_entry ordered (length g.owners) (few w g cells key value ok.image capacity (exit_with meets.Sparse s taken) m.rest m.byte short) entry m.rest
       (entry_reads (length g.owners) value m.rest far_ (omega (arith, near)) ordered (bytes_after (m.path ++ m.byte ∷ []) m.rest key whole bytes)
       (chain_stands w ordered (length g.owners) (slice_index w 0 + 1) value m.rest (exit_with meets.Sparse s taken) m.byte stands_ordered))
 
-  module _ (counted : length g.puts ≡ slice_index w 0) (least : 1 ≤ length key) (most : length key ≤ 2048) (small : length value ≤ 65535) where
+  module _ (counted : length g.puts ≡ slice_index w 0) (least : 1 ≤ length key) (most : length key ≤ 2048) (small : IsValue value) where
     published : Publishes slotted ordered (ledger_after g (length g.owners) key value (m.path ++ m.byte ∷ []) m.rest []) cells 0 entry (m.path ++ m.byte ∷ []) key (length g.owners)
-    published = sparse_put w slotted g cells (length g.owners) key value ok.image same_before refl counted room bytes s taken 0 m stands_slotted slot_is
+    published = sparse_put w slotted g cells (length g.owners) key value ok.image same_before refl counted capacity bytes s taken 0 m stands_slotted slot_is
 
     -- the new owners
     abbrev pub new_cells : List Owner
@@ -178,7 +179,7 @@ module _ (w : List ℕ) (g : Ledger) (cells : ℕ) (key value : List ℕ) (ok : 
         (none_new ordered (with_put g new_cells (put_at key value (length g.owners))) key (length g.owners + length (first_owners (length g.puts) value (m.path ++ m.byte ∷ []) m.rest)))
 
     recorded : IsRecorded (with_put g new_cells (put_at key value (length g.owners))) (length g.puts) (put_at key value (length g.owners))
-    recorded = record { cells = λ j l. owned_record g value (m.path ++ m.byte ∷ []) m.rest [] (put_at key value (length g.owners)) j l; key = (least, most); value = small }
+    recorded = record { cells = λ j l. owned_record g value (m.path ++ m.byte ∷ []) m.rest [] (put_at key value (length g.owners)) j l; key = (least, most, bytes); value = small }
 
     -- the image after the publishing store
     pub sparse_published : IsPublished w ordered g cells new_cells (put_at key value (length g.owners))

@@ -4,6 +4,10 @@ use Rattle.std.proofs.lemmas.Bool.{cond_both, cond-true, eq-eqb}
 use Rattle.cell_layout.specs.declared.Kind.TheVariants as kind
 use Rattle.cell_layout.specs.Pointers.{kind_at}
 use Rattle.cell_layout.proofs.PointerKinds.{is_kind}
+use Rattle.cell_layout.specs.Cells.{lone_words}
+use Rattle.cell_layout.proofs.Added.{slot_small}
+use Rattle.cell_layout.specs.Words.{AreBytes}
+use Rattle.cell_layout.specs.Slots.{slot_at}
 use Rattle.trie_image.specs.declared.Put.{Put}
 use Rattle.trie_image.specs.declared.Owner.{Owner}
 use Rattle.trie_image.specs.declared.Owner.TheVariants.{HeadCell, ChainCell, SparseCell, TopCell, MidCell, LeafCell, PrefixCell}
@@ -18,14 +22,14 @@ use Rattle.trie_image.specs.Cell.{IsPrefixCell}
 use Rattle.trie_image.specs.WellFormed.{IsWellFormed}
 use Rattle.trie_image.specs.Same.{IsSame}
 use Rattle.trie_image.specs.Exit.{exit_with}
-use Rattle.trie_image.specs.Body.{over_passed, further, lone_words, seven, leaf_field}
+use Rattle.trie_image.specs.Body.{over_passed, further, seven, leaf_field}
 use Rattle.trie_image.specs.Stores.{content_of, entry_of, first_further, body_words, prepares, cost}
 use Rattle.trie_image.specs.After.{after}
-use Rattle.cell_layout.proofs.Added.{slot_small}
 use Rattle.trie_image.specs.Publish.{put_at, IsPublished}
+use Rattle.trie_image.specs.Puts.{IsValue}
 use Rattle.trie_image.proofs.Owners.{get_front, grown, sparse_of}
 use Rattle.trie_image.proofs.Kept.{own_inside, not_first}
-use Rattle.trie_image.proofs.CellWords.{Stands, stands_front, stands_back, AreBytes, lone_field}
+use Rattle.trie_image.proofs.CellWords.{Stands, stands_front, stands_back, lone_field}
 use Rattle.trie_image.proofs.HomeStores.{stored_field}
 use Rattle.trie_image.proofs.HomeChanges.{Publishes}
 use Rattle.trie_image.proofs.Homes.{Home, IsOfPrefix, IsSplitAt, root, tail, slot, leaf, content, node}
@@ -35,10 +39,9 @@ use Rattle.trie_image.proofs.NewPointers.{offset_kind, content_there, content_re
 use Rattle.trie_image.proofs.NewOwners.{passed_owners, first_owners, further_owners, length_first_owners}
 use Rattle.trie_image.proofs.NewSplits.{AreNewOwners, Towards, none_new, one_more, both_new, first_new, passed_new}
 use Rattle.trie_image.proofs.Cases.{field_small, reads_nonzero, chain_stands, further_stands, entry_small, entry_is_chain, entry_reads, content_better, nothing_better, other_better, end_better, full_better, past_better}
-use Rattle.cell_layout.specs.Slots.{slot_at}
 use Rattle.trie_image.proofs.NewChains.{Owns, get_back, owner_first}
-use Rattle.trie_image.proofs.Wides.{has_new, split_there}
-use Rattle.trie_image.proofs.WideOwners.{wide_new}
+use Rattle.trie_image.proofs.SplitNodes.{has_new, split_there}
+use Rattle.trie_image.proofs.SplitNodeOwners.{split_node_new}
 use Rattle.trie_image.proofs.Turned.{Turned, turned_now, mid_leads, top_leads, root_stays}
 use Rattle.trie_image.proofs.Published.{better_entry}
 use Rattle.trie_image.proofs.Seen.{by_home, by_byte}
@@ -52,7 +55,7 @@ new_leaf : (w : List ℕ) (c b entry : ℕ) → leaf_field w c b entry b ≡ ent
 unfolding leaf_field
 new_leaf w c b entry = cond-true (b == b) entry (slot_child w c (slot_at (word_of w c 3) b)) (eq-eqb b b refl)
 
-module _ (w : List ℕ) (g : Ledger) (cells : ℕ) (key value : List ℕ) (wf : IsWellFormed w g cells) (counted : length g.puts ≡ slice_index w 0) (least : 1 ≤ length key) (most : length key ≤ 2048) (short_value : length value ≤ 65535) (room : length g.owners + cost (length key) (length value) ≤ cells) (bytes : AreBytes key) where
+module _ (w : List ℕ) (g : Ledger) (cells : ℕ) (key value : List ℕ) (wf : IsWellFormed w g cells) (counted : length g.puts ≡ slice_index w 0) (least : 1 ≤ length key) (most : length key ≤ 2048) (short_value : IsValue value) (capacity : length g.owners + cost (length key) (length value) ≤ cells) (bytes : AreBytes key) where
   put : Put
   put = put_at key value (length g.owners)
 
@@ -62,19 +65,23 @@ module _ (w : List ℕ) (g : Ledger) (cells : ℕ) (key value : List ℕ) (wf : 
       → AreNewOwners w' (grown g (first_owners (length g.puts) value value_start rest ++ more) (put_at key value (length g.owners) ∷ [])) key (length g.owners) (first_owners (length g.puts) value value_start rest ++ more)
       → IsPublished w w' g cells (first_owners (length g.puts) value value_start rest ++ more) (put_at key value (length g.owners))
   published_by w1 w' start rest more p p' h rest' same1 publishes is_key better seen turns left news =
-      let recorded : IsRecorded (grown g (first_owners (length g.puts) value start rest ++ more) (put_at key value (length g.owners) ∷ [])) (length g.puts) (put_at key value (length g.owners)) = record { cells = λ j l. owned_record g value start rest more (put_at key value (length g.owners)) j l; key = (least, most); value = short_value } in record {
+      let recorded : IsRecorded (grown g (first_owners (length g.puts) value start rest ++ more) (put_at key value (length g.owners) ∷ [])) (length g.puts) (put_at key value (length g.owners)) = record { cells = λ j l. owned_record g value start rest more (put_at key value (length g.owners)) j l; key = (least, most, bytes); value = short_value } in record {
         well_formed = well_formed w w1 w' g cells (first_owners (length g.puts) value start rest ++ more) (put_at key value (length g.owners)) p p' h rest' wf same1 publishes is_key better seen turns left news recorded;
         pointers = law w w1 w' g cells (first_owners (length g.puts) value start rest ++ more) (put_at key value (length g.owners)) p p' h rest' wf same1 publishes is_key better;
         places = places_kept w w1 w' g cells (first_owners (length g.puts) value start rest ++ more) (put_at key value (length g.owners)) p p' h rest' wf same1 publishes is_key better seen turns left news recorded;
       }
 
-  pub home_inside : (q : List ℕ) (cell place : ℕ) → Home w g q cell place → (cell < length g.owners) × (place < 8)
-  home_inside q cell place (root e c i) = (let l = own_inside g.owners 0 HeadCell wf.image.head in omega arith, omega arith)
-  home_inside q cell place (tail f) = (own_inside g.owners cell (ChainCell f.from q) f.own, let e = f.is_place in omega arith)
-  home_inside q cell place (slot f) = (own_inside g.owners cell (SparseCell f.before) f.own, let l = slot_small (word_of w cell 3) f.byte place f.slot in omega arith)
-  home_inside q cell place (leaf f) = (own_inside g.owners cell _ f.leaf.own, let e = f.is_place in omega arith)
-  home_inside q cell place (content f e) = (own_inside g.owners cell (PrefixCell q) f.own, omega arith)
-  home_inside q cell place (node f e) = (own_inside g.owners cell (PrefixCell q) f.own, omega arith)
+  -- a word of a cell that isn't cell 0
+  after_head : (cell place : ℕ) (o : Owner) → owner g cell ≡ Some o → (o ≡ HeadCell → ⊥) → 1 ≤ 4 * cell + place / 2
+  after_head cell place o own ne = let z : cell ≢ 0 = not_first g cell o wf.image.head own ne in omega arith
+
+  pub home_inside : (q : List ℕ) (cell place : ℕ) → Home w g q cell place → (cell < length g.owners) × (place < 8) × (1 ≤ 4 * cell + place / 2)
+  home_inside q cell place (root e c i) = (let l = own_inside g.owners 0 HeadCell wf.image.head in omega arith, omega arith, omega arith)
+  home_inside q cell place (tail f) = (own_inside g.owners cell (ChainCell f.from q) f.own, let e = f.is_place in omega arith, after_head cell place (ChainCell f.from q) f.own (λ z. cc))
+  home_inside q cell place (slot f) = (own_inside g.owners cell (SparseCell f.before) f.own, let l = slot_small (word_of w cell 3) f.byte place f.slot in omega arith, after_head cell place (SparseCell f.before) f.own (λ z. cc))
+  home_inside q cell place (leaf f) = (own_inside g.owners cell _ f.leaf.own, let e = f.is_place in omega arith, after_head cell place _ f.leaf.own (λ z. cc))
+  home_inside q cell place (content f e) = (own_inside g.owners cell (PrefixCell q) f.own, omega arith, after_head cell place (PrefixCell q) f.own (λ z. cc))
+  home_inside q cell place (node f e) = (own_inside g.owners cell (PrefixCell q) f.own, omega arith, after_head cell place (PrefixCell q) f.own (λ z. cc))
 
   short : (path rest : List ℕ) → path ++ rest ≡ key → length rest ≤ length key
   short path rest e = let l = ap (λ (x : List ℕ). length x) e in omega (arith, l, length-append path rest)
@@ -95,8 +102,8 @@ module _ (w : List ℕ) (g : Ledger) (cells : ℕ) (key value : List ℕ) (wf : 
       → IsPublished w (stored_field (prepared meets s taken rest b) s.cell s.field p') g cells (first_owners (length g.puts) value start rest ++ more) (put_at key value (length g.owners))
   home_published meets s taken start rest b more q m path rest' p' whole st there fits publishes is_key better at_node at_content news =
       let w1 : List ℕ = prepared meets s taken rest b in let w' : List ℕ = stored_field w1 s.cell s.field p' in let l = home_inside q s.cell s.field st.home in let sh = short start rest whole in
-      let same1 : IsSame w (prepared meets s taken rest b) g = same w g cells key value wf.image room (exit_with meets s taken) rest b sh in
-      let t : Turned w (stored_field (prepared meets s taken rest b) s.cell s.field p') (length g.owners) s.cell s.field p' = turned w g cells key value wf.image room (exit_with meets s taken) rest b sh s.cell s.field p' l.0 l.1 fits in
+      let same1 : IsSame w (prepared meets s taken rest b) g = same w g cells key value wf.image capacity (exit_with meets s taken) rest b sh in
+      let t : Turned w (stored_field (prepared meets s taken rest b) s.cell s.field p') (length g.owners) s.cell s.field p' = turned w g cells key value wf.image capacity (exit_with meets s taken) rest b sh s.cell s.field p' l.0 l.1 fits in
       let changes = changes_old w w1 w' g cells (first_owners (length g.puts) value start rest ++ more) (put_at key value (length g.owners)) s.entered p' q rest' wf same1 publishes is_key better in
       published_by w1 w' start rest more s.entered p' q rest' same1 publishes is_key better
       (by_home w w' g cells wf.image key (length g.owners) s.entered p' q rest' is_key better changes s.cell s.field t st.home (λ f. record { at_node = at_node f; at_content = at_content f }))
@@ -131,19 +138,19 @@ module _ (w : List ℕ) (g : Ledger) (cells : ℕ) (key value : List ℕ) (wf : 
     rest_bytes = bytes_after start rest key whole bytes
 
     low : 1 ≤ length g.owners
-    low = first_cell w g cells key value wf.image room (exit_with meets s taken) rest b (short start rest whole)
+    low = first_cell w g cells key value wf.image capacity (exit_with meets s taken) rest b (short start rest whole)
 
     near : first_further (length g.owners) value rest + 16 ≤ 2 ^ 22
-    near = further_near w g cells key value wf.image room (exit_with meets s taken) rest b (short start rest whole)
+    near = further_near w g cells key value wf.image capacity (exit_with meets s taken) rest b (short start rest whole)
 
     small_used : length g.owners < 2 ^ 31
-    small_used = few w g cells key value wf.image room (exit_with meets s taken) rest b (short start rest whole)
+    small_used = few w g cells key value wf.image capacity (exit_with meets s taken) rest b (short start rest whole)
 
     same_ready : IsSame w (prepared meets s taken rest b) g
-    same_ready = same w g cells key value wf.image room (exit_with meets s taken) rest b (short start rest whole)
+    same_ready = same w g cells key value wf.image capacity (exit_with meets s taken) rest b (short start rest whole)
 
     ready_stands : Stands (prepared meets s taken rest b) (length g.owners) (body_words w (length g.owners) (slice_index w 0 + 1) value rest (exit_with meets s taken) b)
-    ready_stands = stands w g cells key value wf.image room (exit_with meets s taken) rest b (short start rest whole)
+    ready_stands = stands w g cells key value wf.image capacity (exit_with meets s taken) rest b (short start rest whole)
 
     small_entry : entry_of (length g.owners) value rest < 2 ^ 32
     small_entry = entry_small (length g.owners) value rest low (omega (arith, near))
@@ -151,10 +158,10 @@ module _ (w : List ℕ) (g : Ledger) (cells : ℕ) (key value : List ℕ) (wf : 
     -- after the store in a field
     module _ (cell place p' : ℕ) (inside : cell < length g.owners) (small : place < 8) (fits : p' < 2 ^ 32) where
       turns : Turned w (stored_field (prepared meets s taken rest b) cell place p') (length g.owners) cell place p'
-      turns = turned w g cells key value wf.image room (exit_with meets s taken) rest b (short start rest whole) cell place p' inside small fits
+      turns = turned w g cells key value wf.image capacity (exit_with meets s taken) rest b (short start rest whole) cell place p' inside small fits
 
       stands_now : Stands (stored_field (prepared meets s taken rest b) cell place p') (length g.owners) (body_words w (length g.owners) (slice_index w 0 + 1) value rest (exit_with meets s taken) b)
-      stands_now = stands_after w g cells key value wf.image room (exit_with meets s taken) rest b (short start rest whole) cell place p' inside small fits
+      stands_now = stands_after w g cells key value wf.image capacity (exit_with meets s taken) rest b (short start rest whole) cell place p' inside small fits
 
       reads_now : Reads (reading (stored_field (prepared meets s taken rest b) cell place p')) (entry_of (length g.owners) value rest) rest (content_of (length g.owners))
       reads_now = entry_reads (length g.owners) value rest low (omega (arith, near)) (stored_field (prepared meets s taken rest b) cell place p') rest_bytes
@@ -168,7 +175,7 @@ module _ (w : List ℕ) (g : Ledger) (cells : ℕ) (key value : List ℕ) (wf : 
       let fits : content_of (length g.owners) < 2 ^ 32 = omega arith in let few_ = small_used Content s taken key [] b whole in
       let t = turns Content s taken key [] b whole s.cell s.field (content_of (length g.owners)) l.0 l.1 fits in
       home_published Content s taken key [] b [] key [] key [] (content_of (length g.owners)) whole st (content_there w (length g.owners) few_) fits
-      (content_put w (prepared Content s taken [] b) g cells (length g.owners) key value wf.image (same_ready Content s taken key [] b whole) refl counted room bytes s taken b 0 m (ready_stands Content s taken key [] b whole)) whole
+      (content_put w (prepared Content s taken [] b) g cells (length g.owners) key value wf.image (same_ready Content s taken key [] b whole) refl counted capacity bytes s taken b 0 m (ready_stands Content s taken key [] b whole)) whole
       (content_better w (stored_field (prepared Content s taken [] b) s.cell s.field (content_of (length g.owners))) g cells wf.image s (content_of (length g.owners)) t (length g.owners) 1 0 (omega arith) (omega arith) few_ (omega arith) key m)
       (λ f e. absurd (no_node_content s.entered (held_node key [] key s st f e) (ap (λ (x : ℕ). kind_at x) st.reads ∙ m.is_content))) (λ f e. (refl, content_record_is w (length g.owners) few_)) (none_new (stored_field (prepared Content s taken [] b) s.cell s.field (content_of (length g.owners))) (ledger_of key [] []) key (first_further (length g.owners) value []))
 
@@ -178,7 +185,7 @@ module _ (w : List ℕ) (g : Ledger) (cells : ℕ) (key value : List ℕ) (wf : 
       let t = turns Nothing s taken m.path m.rest b whole s.cell s.field p' l.0 l.1 fits in let reads = reads_now Nothing s taken m.path m.rest b whole s.cell s.field p' l.0 l.1 fits in
       let zero_ : s.entered ≡ 0 = st.reads ∙ m.is_nothing in
       home_published Nothing s taken m.path m.rest b [] m.path [] m.path m.rest p' whole st (reads_nonzero (reading (stored_field (prepared Nothing s taken m.rest b) s.cell s.field p')) p' (content_of (length g.owners)) m.rest reads (content_there w (length g.owners) few_)) fits
-      (nothing_put w (prepared Nothing s taken m.rest b) g cells (length g.owners) key value wf.image (same_ready Nothing s taken m.path m.rest b whole) refl counted room bytes s taken b 0 m (ready_stands Nothing s taken m.path m.rest b whole)) whole
+      (nothing_put w (prepared Nothing s taken m.rest b) g cells (length g.owners) key value wf.image (same_ready Nothing s taken m.path m.rest b whole) refl counted capacity bytes s taken b 0 m (ready_stands Nothing s taken m.path m.rest b whole)) whole
       (nothing_better w (stored_field (prepared Nothing s taken m.rest b) s.cell s.field p') g cells wf.image s p' t (length g.owners) 1 p' (omega arith) (omega arith) few_ fits key taken m reads)
       (λ f e. absurd (node_nonzero s.entered (held_node m.path [] m.path s st f e) zero_)) (λ f e. absurd (let c : 2 ^ 31 ≤ s.entered = is_kind s.entered (Some kind.Content) (held_content m.path [] m.path s st f e) in omega (arith, zero_))) (none_new (stored_field (prepared Nothing s taken m.rest b) s.cell s.field p') (ledger_of m.path m.rest []) key (first_further (length g.owners) value m.rest))
 
@@ -197,7 +204,7 @@ module _ (w : List ℕ) (g : Ledger) (cells : ℕ) (key value : List ℕ) (wf : 
       let t = turns OtherByte s taken start rest b whole s.cell s.field p' l.0 l.1 fits in let reads = reads_now OtherByte s taken start rest b whole s.cell s.field p' l.0 l.1 fits in let more_stands = further_now OtherByte s taken start rest b whole s.cell s.field p' l.0 l.1 fits in
       let to : Towards key m.path = (m.byte ∷ m.rest, m.whole) in
       home_published OtherByte s taken start rest b (further_owners w OtherByte s m.path m.byte 0 (first_further (length g.owners) value m.rest)) m.home_path m.inside m.path (m.inside ++ m.byte ∷ m.rest) p' whole st (node_nonzero p' is_node) fits
-      (other_put w w1 g cells (length g.owners) key value wf.image (same_ready OtherByte s taken start rest b whole) refl counted room bytes s taken 0 m (ready_stands OtherByte s taken start rest b whole))
+      (other_put w w1 g cells (length g.owners) key value wf.image (same_ready OtherByte s taken start rest b whole) refl counted capacity bytes s taken 0 m (ready_stands OtherByte s taken start rest b whole))
       (sym (append_assoc m.home_path m.inside (m.byte ∷ m.rest)) ∙ (ap (λ (k : List ℕ). k ++ m.byte ∷ m.rest) (sym st.passed) ∙ m.whole))
       (other_better w w' g cells wf.image s p' t (length g.owners) x (entry_of (length g.owners) value m.rest) (omega (arith, low_)) (omega (arith, near_)) few_ (small_entry OtherByte s taken start rest b whole) key taken m small_b more_stands reads)
       (λ f e. (is_node, not_empty m.inside m.byte m.rest)) (λ f e. absurd (below_node m.home_path m.inside m.path s st (inl m.is_chain) f e))
@@ -213,7 +220,7 @@ module _ (w : List ℕ) (g : Ledger) (cells : ℕ) (key value : List ℕ) (wf : 
       let t = turns End s taken key [] b whole s.cell s.field p' l.0 l.1 there.1 in let more_stands = further_now End s taken key [] b whole s.cell s.field p' l.0 l.1 there.1 in
       let bare = m.bare in let moved : IsOfPrefix w g m.home_path s.cell → s.at ≢ s.entered = λ f e. bare e m.home_path f.own in
       home_published End s taken key [] b more m.home_path m.inside key m.inside p' whole st there.0 there.1
-      (end_put w w1 g cells (length g.owners) key value wf.image (same_ready End s taken key [] b whole) refl counted room bytes s taken b 0 m (ready_stands End s taken key [] b whole)) (sym st.passed)
+      (end_put w w1 g cells (length g.owners) key value wf.image (same_ready End s taken key [] b whole) refl counted capacity bytes s taken b 0 m (ready_stands End s taken key [] b whole)) (sym st.passed)
       (end_better w w' g cells wf.image s p' t (length g.owners) x 0 (omega (arith, low_)) (omega (arith, near_)) few_ (omega arith) key m more_stands)
       (λ f e. (over_node s x 31 (λ z. absurd (let n = moved f in n z)) later (omega (arith, near_)), λ z. let n = moved f in n (st.forward ∙ (ap (λ (k : List ℕ). s.entered + length k) z ∙ (let y : s.entered + 0 ≡ s.entered = omega arith in y)))))
       (λ f e. absurd (below_node m.home_path m.inside key s st m.is_node f e))
@@ -228,7 +235,7 @@ module _ (w : List ℕ) (g : Ledger) (cells : ℕ) (key value : List ℕ) (wf : 
       let t = turns PastContent s taken m.path rest b whole s.cell s.field p' l.0 l.1 fits in let reads = reads_now PastContent s taken m.path rest b whole s.cell s.field p' l.0 l.1 fits in let more_stands = further_now PastContent s taken m.path rest b whole s.cell s.field p' l.0 l.1 fits in
       let none = m.no_prefix in let entry_chain : IsNode (entry_of (length g.owners) value (m.byte ∷ m.rest)) = inl (entry_is_chain (length g.owners) value (m.byte ∷ m.rest) low_ (omega (arith, near_)) (λ z. omega arith)) in
       home_published PastContent s taken m.path rest b more m.path [] m.path rest p' whole st (λ z. omega arith) fits
-      (past_put w w1 g cells (length g.owners) key value wf.image (same_ready PastContent s taken m.path rest b whole) refl counted room bytes s taken b 0 m (ready_stands PastContent s taken m.path rest b whole)) whole
+      (past_put w w1 g cells (length g.owners) key value wf.image (same_ready PastContent s taken m.path rest b whole) refl counted capacity bytes s taken b 0 m (ready_stands PastContent s taken m.path rest b whole)) whole
       (past_better w w' g cells wf.image s p' t (length g.owners) x (entry_of (length g.owners) value (m.byte ∷ m.rest)) (omega (arith, low_)) (omega (arith, near_)) few_ (small_entry PastContent s taken m.path rest b whole) key taken m entry_chain more_stands reads)
       (λ f e. absurd (none m.path f.own)) (λ f e. absurd (none m.path f.own))
       (one_more w' (ledger_of m.path rest more) key x (PrefixCell m.path) [] (m.byte ∷ m.rest, m.whole) (none_new w' (ledger_of m.path rest more) key (x + 1)))
@@ -253,10 +260,10 @@ module _ (w : List ℕ) (g : Ledger) (cells : ℕ) (key value : List ℕ) (wf : 
       let there : split_child w' x m.byte ≢ 0 = λ z. reads_nonzero (reading w') entry (content_of (length g.owners)) m.rest reads (content_there w (length g.owners) few_)
       (sym (split_there w w' (s.at / 32) m.byte entry x (seven (word_of w (s.at / 32) 3) m.byte) more_stands (omega (arith, near_)) small_fields m.byte small_b (has_new (word_of w (s.at / 32) 3) m.byte) ∙ new_leaf w (s.at / 32) m.byte entry) ∙ z) in
       home_published Full s taken start rest b more m.path [] m.path (m.byte ∷ m.rest) p' whole st (λ z. omega arith) fits
-      (full_put w w1 g cells (length g.owners) key value wf.image (same_ready Full s taken start rest b whole) refl counted room bytes s taken 0 m (ready_stands Full s taken start rest b whole)) m.whole
+      (full_put w w1 g cells (length g.owners) key value wf.image (same_ready Full s taken start rest b whole) refl counted capacity bytes s taken 0 m (ready_stands Full s taken start rest b whole)) m.whole
       (full_better w w' g cells wf.image s p' t (length g.owners) x entry (omega (arith, low_)) (omega (arith, near_)) few_ small_entry_ key taken m small_b more_stands reads)
       (λ f e. (is_node, λ z. cc)) (λ f e. absurd (below_node m.path [] m.path s st (inr (inl m.is_sparse)) f e))
-      (wide_new w w' (ledger_of start rest more) key (s.at / 32) m.byte entry x m.path (seven (word_of w (s.at / 32) 3) m.byte) more_stands (omega (arith, near_)) small_fields (owned_more start rest more) (m.byte ∷ m.rest, m.whole) m.byte small_b there)
+      (split_node_new w w' (ledger_of start rest more) key (s.at / 32) m.byte entry x m.path (seven (word_of w (s.at / 32) 3) m.byte) more_stands (omega (arith, near_)) small_fields (owned_more start rest more) (m.byte ∷ m.rest, m.whole) m.byte small_b there)
 
   -- the cases of a new cell in a split node: the key's byte leads to the entry, where it led to nothing
   split_published : (meets : Meets) (s : Stand) (taken : ℕ) (rest : List ℕ) (b : ℕ) (more : List Owner) (path : List ℕ) (p' parent c : ℕ) (o : Owner) → path ++ b ∷ rest ≡ key → owner g s.cell ≡ Some o → (o ≡ HeadCell → ⊥) → ((q : List ℕ) → o ≡ SparseCell q → ⊥) → field w s.cell s.field ≡ 0
@@ -290,7 +297,7 @@ module _ (w : List ℕ) (g : Ledger) (cells : ℕ) (key value : List ℕ) (wf : 
       let here : field w' x (m.byte % 8) ≡ entry = lone_field w' x (m.byte % 8) entry more_stands (small_entry NoLeaf s taken start rest b whole) (m.byte % 8) (omega arith) refl in
       let now : field w' s.cell (m.byte / 8 % 8) ≡ 32 * x + 28 = ap (λ (i : ℕ). field w' s.cell i) (sym m.place) ∙ turned_now w w' (length g.owners) s.cell s.field p' t in
       split_published NoLeaf s taken rest b more m.path p' m.parent m.top (MidCell m.top (m.byte / 64)) m.whole own (λ z. cc) (λ q z. cc) m.absent small (λ z. omega arith) fits m.split
-      (leaf_put w w1 g cells (length g.owners) key value wf.image (same_ready NoLeaf s taken start rest b whole) refl counted room bytes s taken m (ready_stands NoLeaf s taken start rest b whole)) reads
+      (leaf_put w w1 g cells (length g.owners) key value wf.image (same_ready NoLeaf s taken start rest b whole) refl counted capacity bytes s taken m (ready_stands NoLeaf s taken start rest b whole)) reads
       (mid_leads w w' g s.cell s.field p' t m.path b m.parent m.top x entry m.split m.mid m.place refl here)
       (one_more w' (ledger_of start rest more) key x (LeafCell m.top (m.byte / 64) (m.byte / 8 % 8)) [] (s.cell, get_front g.owners (first_owners (length g.puts) value start rest ++ more) s.cell (MidCell m.top (m.byte / 64)) own, omega arith, now) (none_new w' (ledger_of start rest more) key (x + 1)))
 
@@ -308,7 +315,7 @@ module _ (w : List ℕ) (g : Ledger) (cells : ℕ) (key value : List ℕ) (wf : 
       let now : field w' s.cell (m.byte / 64) ≡ 32 * x + 28 = ap (λ (i : ℕ). field w' s.cell i) (sym m.place) ∙ turned_now w w' (length g.owners) s.cell s.field p' t in
       let own_mid : owner (ledger_of start rest more) x ≡ Some (MidCell s.cell (m.byte / 64)) = owner_first (ledger_of start rest more) x (MidCell s.cell (m.byte / 64)) (LeafCell s.cell (m.byte / 64) (m.byte / 8 % 8) ∷ []) (owned_more start rest more) in
       split_published NoMid s taken rest b more m.path p' m.parent s.cell (TopCell m.path) m.whole own (λ z. cc) (λ q z. cc) m.absent small (λ z. omega arith) fits m.split
-      (mid_put w w1 g cells (length g.owners) key value wf.image (same_ready NoMid s taken start rest b whole) refl counted room bytes s taken 0 m (ready_stands NoMid s taken start rest b whole)) reads
+      (mid_put w w1 g cells (length g.owners) key value wf.image (same_ready NoMid s taken start rest b whole) refl counted capacity bytes s taken 0 m (ready_stands NoMid s taken start rest b whole)) reads
       (top_leads w w' g s.cell s.field p' t m.path b m.parent x (x + 1) entry m.split m.place refl middle here)
       (one_more w' (ledger_of start rest more) key x (MidCell s.cell (m.byte / 64)) (LeafCell s.cell (m.byte / 64) (m.byte / 8 % 8) ∷ []) (omega arith, now, m.path, get_front g.owners (first_owners (length g.puts) value start rest ++ more) s.cell (TopCell m.path) own)
       (one_more w' (ledger_of start rest more) key (x + 1) (LeafCell s.cell (m.byte / 64) (m.byte / 8 % 8)) [] (x, own_mid, omega arith, middle) (none_new w' (ledger_of start rest more) key (x + 1 + 1))))

@@ -39,9 +39,9 @@ module _ (w : List ℕ) (g : Ledger) (own : List Owner) (hist : List Put) where
   cell_grown c (PrefixCell q) ok = record { content = path_grown g own hist (field w c 0) q ok.content; is_content = ok.is_content; node = path_grown g own hist (field w c 1) q ok.node; is_node = ok.is_node }
 
   pub image_grown : (cells : ℕ) → IsImage w g cells → length (g.owners ++ own) ≤ cells → length (g.puts ++ hist) < length (g.owners ++ own) → ((j : ℕ) (o : Owner) → slice_get own j ≡ Some o → IsCell w (grown g own hist) (length g.owners + j) o) → IsImage w (grown g own hist) cells
-  image_grown cells ok room fewer news = record {
-    wide = ok.wide;
-    room = room;
+  image_grown cells ok capacity fewer news = record {
+    size = ok.size;
+    capacity = capacity;
     fewer = fewer;
     small = ok.small;
     head = owner_grown 0 HeadCell ok.head;

@@ -14,7 +14,7 @@ use Rattle.trie_image.specs.Image.{word_of, field, chain_child, slot_child, leaf
 use Rattle.trie_image.specs.Paths.{owner, HasPath}
 use Rattle.trie_image.specs.Cell.{IsTopCell, IsMidCell, IsPrefixCell, IsCell, IsImage}
 use Rattle.trie_image.specs.Same.{SameWords}
-use Rattle.trie_image.proofs.Owners.{sparse_of, wide_of, prefix_of, path_once}
+use Rattle.trie_image.proofs.Owners.{sparse_of, split_node_of, prefix_of, path_once}
 use Rattle.trie_image.proofs.Kept.{same_field, same_byte}
 use Rattle.trie_image.proofs.Children.{closed}
 use Rattle.trie_image.proofs.Exits.{path_nonzero}
@@ -47,8 +47,8 @@ module _ (w w' : List ℕ) (g : Ledger) (each : (c : ℕ) (o : Owner) → owner 
       (λ (z : m ≡ 0). cond-true (m == 0) 0 (leaf_child w' (field w' (m / 32) (b / 8 % 8)) b) (eq-eqb m 0 z) ∙ sym (cond-true (m == 0) 0 (leaf_child w (field w (m / 32) (b / 8 % 8)) b) (eq-eqb m 0 z)))
       (λ (ne : m ≢ 0). ap (λ (x : ℕ). cond (m == 0) 0 x) (ap (λ (x : ℕ). leaf_child w' x b) (same_field w w' (m / 32) (b / 8 % 8) (h ne) (omega arith)) ∙ leaf_keeps (field w (m / 32) (b / 8 % 8)) b (k ne))) (cases_eq m 0)
 
-  pub wide_keeps : (d b : ℕ) (q : List ℕ) → owner g d ≡ Some (TopCell q) → SameWords w w' d → ((m t i : ℕ) → owner g m ≡ Some (MidCell t i) → SameWords w w' m) → ((l t i j : ℕ) → owner g l ≡ Some (LeafCell t i j) → SameWords w w' l) → split_child w' d b ≡ split_child w d b
-  wide_keeps d b q own h mids leaves = let top : IsTopCell w g d q = each d (TopCell q) own in ⊎_elim
+  pub split_node_keeps : (d b : ℕ) (q : List ℕ) → owner g d ≡ Some (TopCell q) → SameWords w w' d → ((m t i : ℕ) → owner g m ≡ Some (MidCell t i) → SameWords w w' m) → ((l t i j : ℕ) → owner g l ≡ Some (LeafCell t i j) → SameWords w w' l) → split_child w' d b ≡ split_child w d b
+  split_node_keeps d b q own h mids leaves = let top : IsTopCell w g d q = each d (TopCell q) own in ⊎_elim
       (λ (t : nat_lt b 256 ≡ true). let small : b < 256 = ltb-true b 256 t in let m : ℕ = field w d (b / 64) in
       let owned : field w d (b / 64) ≢ 0 → owner g (field w d (b / 64) / 32) ≡ Some (MidCell d (b / 64)) = λ ne. top.mids (b / 64) (omega arith) ne in
       ap (λ (x : ℕ). cond (nat_lt b 256) x 0) (ap (λ (x : ℕ). mid_child w' x b) (same_field w w' d (b / 64) h (omega arith)) ∙ mid_keeps (field w d (b / 64)) b (λ ne. mids (field w d (b / 64) / 32) d (b / 64) (owned ne))
@@ -68,11 +68,11 @@ module _ (w w' : List ℕ) (g : Ledger) (each : (c : ℕ) (o : Owner) → owner 
 
     module _ (chains : (a b : ℕ) (q : List ℕ) → kind_at a ≡ Some kind.Chain → HasPath g a q → TurnsTo (chain_child w a b) (chain_child w' a b))
         (sparses : (d b : ℕ) (q : List ℕ) → owner g d ≡ Some (SparseCell q) → TurnsTo (slot_child w d (slot_at (word_of w d 3) b)) (slot_child w' d (slot_at (word_of w' d 3) b)))
-        (wides : (d b : ℕ) (q : List ℕ) → owner g d ≡ Some (TopCell q) → TurnsTo (split_child w d b) (split_child w' d b)) where
+        (split_nodes : (d b : ℕ) (q : List ℕ) → owner g d ≡ Some (TopCell q) → TurnsTo (split_child w d b) (split_child w' d b)) where
       pub node_turns_to : (a b : ℕ) (q : List ℕ) (k : Option Kind) → kind_at a ≡ k → HasPath g a q → TurnsTo (node_child w a b k) (node_child w' a b k)
       node_turns_to a b q (Some kind.Chain) e at = chains a b q e at
       node_turns_to a b q (Some kind.Sparse) e at = sparses (a / 32) b q (sparse_of g a q at e)
-      node_turns_to a b q (Some kind.Wide) e at = wides (a / 32) b q (wide_of g a q at e)
+      node_turns_to a b q (Some kind.Wide) e at = split_nodes (a / 32) b q (split_node_of g a q at e)
       node_turns_to a b q _ e at = inl refl
 
       pub turns_to : ((d : ℕ) (q : List ℕ) → owner g d ≡ Some (PrefixCell q) → field w' d 1 ≡ field w d 1) → (a b : ℕ) (q : List ℕ) (k : Option Kind) → kind_at a ≡ k → HasPath g a q → TurnsTo (child_of w a b k) (child_of w' a b k)

@@ -17,7 +17,7 @@ use Rattle.trie_image.specs.Same.{SameWords}
 use Rattle.trie_image.proofs.Owners.{chain_of}
 use Rattle.trie_image.proofs.Kept.{same_field, cell_kept, same_cell, own_inside, not_first}
 use Rattle.trie_image.proofs.HomeStores.{stored_field, apart, apart_own, is_stored, stays, mid_stored, top_stored}
-use Rattle.trie_image.proofs.HomeChanges.{Publishes, chain_keeps, sparse_keeps, leaf_keeps, mid_keeps, wide_keeps, record_keeps, TurnsTo, turns_to, changes_from}
+use Rattle.trie_image.proofs.HomeChanges.{Publishes, chain_keeps, sparse_keeps, leaf_keeps, mid_keeps, split_node_keeps, record_keeps, TurnsTo, turns_to, changes_from}
 
 -- children by way of inner cells
 leaf_some : (w : List ℕ) (l b : ℕ) → l ≢ 0 → leaf_child w l b ≡ field w (l / 32) (b % 8)
@@ -32,8 +32,8 @@ mid_some w m b ne = cond-false (m == 0) 0 (leaf_child w (field w (m / 32) (b / 8
 mid_none : (w : List ℕ) (m b : ℕ) → m ≡ 0 → mid_child w m b ≡ 0
 mid_none w m b e = cond-true (m == 0) 0 (leaf_child w (field w (m / 32) (b / 8 % 8)) b) (eq-eqb m 0 e)
 
-wide_not_zero : (p : ℕ) → kind_at p ≡ Some kind.Wide → p ≢ 0
-wide_not_zero p e = let l : (p ≢ 0) × (p < 2 ^ 31) × (p % 32 ≡ 28) = is_kind p (Some kind.Wide) e in l.0
+split_node_not_zero : (p : ℕ) → kind_at p ≡ Some kind.Wide → p ≢ 0
+split_node_not_zero p e = let l : (p ≢ 0) × (p < 2 ^ 31) × (p % 32 ≡ 28) = is_kind p (Some kind.Wide) e in l.0
 
 -- the cell has one pointer, at this place
 abbrev pub HasAlone : List ℕ → ℕ → ℕ → ℕ → Type 0
@@ -69,13 +69,13 @@ module _ (w : List ℕ) (g : Ledger) (cells : ℕ) (ok : IsImage w g cells) (key
     keeps : (d : ℕ) (x : Owner) → owner g d ≡ Some x → (x ≡ o → ⊥) → SameWords w (stored_field w c i p') d
     keeps d x e ne = apart_own w g cells c i p' o ok own small fits d x e ne
 
-    by_wides : IsImage (stored_field w c i p') g cells → ((d b : ℕ) (q : List ℕ) → owner g d ≡ Some (TopCell q) → TurnsTo w (stored_field w c i p') g ok.each 0 entry (split_child w d b) (split_child (stored_field w c i p') d b)) → Publishes w (stored_field w c i p') g cells 0 entry h key new
-    by_wides image wides = record {
+    by_split_nodes : IsImage (stored_field w c i p') g cells → ((d b : ℕ) (q : List ℕ) → owner g d ≡ Some (TopCell q) → TurnsTo w (stored_field w c i p') g ok.each 0 entry (split_child w d b) (split_child (stored_field w c i p') d b)) → Publishes w (stored_field w c i p') g cells 0 entry h key new
+    by_split_nodes image split_nodes = record {
       image = image;
       records = λ a q at_a. inl (record_keeps w (stored_field w c i p') g ok.each (λ d r e. same_field w (stored_field w c i p') d 0 (keeps d (PrefixCell r) e (prefix r)) (omega arith)) a q (kind_at a) refl at_a);
       changes = changes_from w (stored_field w c i p') g ok.each 0 entry cells h image at (turns_to w (stored_field w c i p') g ok.each 0 entry
           (λ a b q e at_a. let n = chain_of g a q at_a e in inl (chain_keeps w (stored_field w c i p') g ok.each a b (keeps (a / 32) (ChainCell n.0 n.1) n.2 (chain n.0 n.1))))
-          (λ d b q e. inl (sparse_keeps w (stored_field w c i p') g ok.each d b (keeps d (SparseCell q) e (sparse q)))) wides
+          (λ d b q e. inl (sparse_keeps w (stored_field w c i p') g ok.each d b (keeps d (SparseCell q) e (sparse q)))) split_nodes
           (λ d r e. same_field w (stored_field w c i p') d 1 (keeps d (PrefixCell r) e (prefix r)) (omega arith)));
     }
 
@@ -95,13 +95,13 @@ module _ (w : List ℕ) (g : Ledger) (cells : ℕ) (ok : IsImage w g cells) (key
         (λ (f : b / 8 % 8 ≡ i). let zero_ : field w (m / 32) (b / 8 % 8) ≡ 0 = ap₂ (λ (x y : ℕ). field w x y) e f ∙ held in
         let led : field (stored_field w c i l) (m / 32) (b / 8 % 8) ≡ l = ap₂ (λ (x y : ℕ). field (stored_field w c i l) x y) e f ∙ is_stored w g cells c i l (MidCell t a) ok own small fits in
         subst (λ (x : ℕ). TurnsTo w (stored_field w c i l) g ok.each 0 entry x (mid_child (stored_field w c i l) m b)) (sym was) (subst (λ (x : ℕ). TurnsTo w (stored_field w c i l) g ok.each 0 entry (leaf_child w (field w (m / 32) (b / 8 % 8)) b) x)
-        (sym (now ∙ ap (λ (x : ℕ). leaf_child (stored_field w c i l) x b) led)) (new_leaf (stored_field w c i l) l n b (field w (m / 32) (b / 8 % 8)) zero_ (wide_not_zero l is) alone (mid_keep (l / 32) (LeafCell t a i) leaf (λ x. cc)))))
+        (sym (now ∙ ap (λ (x : ℕ). leaf_child (stored_field w c i l) x b) led)) (new_leaf (stored_field w c i l) l n b (field w (m / 32) (b / 8 % 8)) zero_ (split_node_not_zero l is) alone (mid_keep (l / 32) (LeafCell t a i) leaf (λ x. cc)))))
         (λ (f : b / 8 % 8 ≢ i). inl (now ∙ (ap (λ (x : ℕ). leaf_child (stored_field w c i l) x b) (stays w g cells c i l (MidCell t a) ok own small fits (m / 32) (b / 8 % 8) (omega arith) (λ x y. f y))
         ∙ (leaf_keeps w (stored_field w c i l) g ok.each (field w (m / 32) (b / 8 % 8)) b leaves ∙ sym was)))) (cases_eq (b / 8 % 8) i))
         (λ (e : m / 32 ≢ c). inl (mid_keeps w (stored_field w c i l) g ok.each m b (λ _. apart w g cells c i l (MidCell t a) ok own small fits (m / 32) e) (λ _. leaves))) (cases_eq (m / 32) c)) (cases_eq m 0)
 
     pub mid_publishes : Publishes w (stored_field w c i l) g cells 0 entry h key new
-    mid_publishes = by_wides c i l (MidCell t a) own small fits (λ f t x. cc) (λ q x. cc) (λ q x. cc) (mid_stored w g cells c l ok fits i t a own small leaf is)
+    mid_publishes = by_split_nodes c i l (MidCell t a) own small fits (λ f t x. cc) (λ q x. cc) (λ q x. cc) (mid_stored w g cells c l ok fits i t a own small leaf is)
         (λ d b q e. let top : IsTopCell w g d q = ok.each d (TopCell q) e in split_turn (stored_field w c i l) b (mid_child w (field w d (b / 64)) b) (mid_child (stored_field w c i l) (field (stored_field w c i l) d (b / 64)) b)
         (λ t_. let less : b < 256 = ltb-true b 256 t_ in subst (λ (x : ℕ). TurnsTo w (stored_field w c i l) g ok.each 0 entry (mid_child w (field w d (b / 64)) b) (mid_child (stored_field w c i l) x b)) (sym (same_field w (stored_field w c i l) d (b / 64) (mid_keep d (TopCell q) e (λ x. cc)) (omega arith)))
         (under_mid d (b / 64) (field w d (b / 64)) b (λ ne. top.mids (b / 64) (omega arith) ne))))
@@ -119,7 +119,7 @@ module _ (w : List ℕ) (g : Ledger) (cells : ℕ) (ok : IsImage w g cells) (key
     of_top b less = let top : IsTopCell w g c q = ok.each c (TopCell q) own in ⊎_elim
         (λ (e : b / 64 ≡ i). let zero_ : field w c (b / 64) ≡ 0 = ap (λ (x : ℕ). field w c x) e ∙ held in let led : field (stored_field w c i m) c (b / 64) ≡ m = ap (λ (x : ℕ). field (stored_field w c i m) c x) e ∙ is_stored w g cells c i m (TopCell q) ok own top_small fits in
         subst (λ (x : ℕ). TurnsTo w (stored_field w c i m) g ok.each 0 entry (mid_child w (field w c (b / 64)) b) (mid_child (stored_field w c i m) x b)) (sym led)
-        (new_mid (stored_field w c i m) m j l n b (field w c (b / 64)) zero_ (wide_not_zero m is) there mid_alone leaf_alone (top_keep (m / 32) (MidCell c i) mid (λ x. cc)) (top_keep (l / 32) (LeafCell c i j) leaf (λ x. cc))))
+        (new_mid (stored_field w c i m) m j l n b (field w c (b / 64)) zero_ (split_node_not_zero m is) there mid_alone leaf_alone (top_keep (m / 32) (MidCell c i) mid (λ x. cc)) (top_keep (l / 32) (LeafCell c i j) leaf (λ x. cc))))
         (λ (d : b / 64 ≢ i). let owned : field w c (b / 64) ≢ 0 → owner g (field w c (b / 64) / 32) ≡ Some (MidCell c (b / 64)) = λ ne. top.mids (b / 64) (omega arith) ne in
         inl (ap (λ (x : ℕ). mid_child (stored_field w c i m) x b) (stays w g cells c i m (TopCell q) ok own top_small fits c (b / 64) (omega arith) (λ x y. d y))
         ∙ mid_keeps w (stored_field w c i m) g ok.each (field w c (b / 64)) b (λ ne. top_keep (field w c (b / 64) / 32) (MidCell c (b / 64)) (owned ne) (λ x. cc))
@@ -127,20 +127,20 @@ module _ (w : List ℕ) (g : Ledger) (cells : ℕ) (ok : IsImage w g cells) (key
         top_keep (field w (field w c (b / 64) / 32) (b / 8 % 8) / 32) (LeafCell c (b / 64) (b / 8 % 8)) (cell.leaves (b / 8 % 8) (omega arith) nl) (λ x. cc)))) (cases_eq (b / 64) i)
 
     pub top_publishes : Publishes w (stored_field w c i m) g cells 0 entry h key new
-    top_publishes = by_wides c i m (TopCell q) own top_small fits (λ f t x. cc) (λ q x. cc) (λ q x. cc) (top_stored w g cells c m ok fits i q own small mid is)
+    top_publishes = by_split_nodes c i m (TopCell q) own top_small fits (λ f t x. cc) (λ q x. cc) (λ q x. cc) (top_stored w g cells c m ok fits i q own small mid is)
         (λ d b r e. ⊎_elim
         (λ (z : c ≡ d). subst (λ (x : ℕ). TurnsTo w (stored_field w c i m) g ok.each 0 entry (split_child w x b) (split_child (stored_field w c i m) x b)) z
         (split_turn (stored_field w c i m) b (mid_child w (field w c (b / 64)) b) (mid_child (stored_field w c i m) (field (stored_field w c i m) c (b / 64)) b) (λ t_. of_top b (ltb-true b 256 t_))))
-        (λ (ne : c ≢ d). inl (wide_keeps w (stored_field w c i m) g ok.each d b r e (apart w g cells c i m (TopCell q) ok own top_small fits d (λ z. ne (sym z)))
+        (λ (ne : c ≢ d). inl (split_node_keeps w (stored_field w c i m) g ok.each d b r e (apart w g cells c i m (TopCell q) ok own top_small fits d (λ z. ne (sym z)))
         (λ k u v f. top_keep k (MidCell u v) f (λ x. cc)) (λ k u v y f. top_keep k (LeafCell u v y) f (λ x. cc)))) (cases_eq c d))
 
   -- the order word of a sparse cell, after the entry was put in the free slot
-  module _ (c byte word : ℕ) (q : List ℕ) (own : owner g c ≡ Some (SparseCell q)) (adds : AddsChild (word_of w c 3) word byte) (room : child_count (word_of w c 3) < 6) (absent : slot_at (word_of w c 3) byte ≡ None) (slot : field w c (child_count (word_of w c 3)) ≡ entry) (path : h ≡ q ++ byte ∷ []) where
+  module _ (c byte word : ℕ) (q : List ℕ) (own : owner g c ≡ Some (SparseCell q)) (adds : AddsChild (word_of w c 3) word byte) (capacity : child_count (word_of w c 3) < 6) (absent : slot_at (word_of w c 3) byte ≡ None) (slot : field w c (child_count (word_of w c 3)) ≡ entry) (path : h ≡ q ++ byte ∷ []) where
     abbrev ordered : List ℕ
     ordered = set w (4 * c + 3) word
 
     inside : 4 * c + 3 < length w
-    inside = let l : c < length g.owners = own_inside g.owners c (SparseCell q) own in omega (arith, ok.wide, ok.room)
+    inside = let l : c < length g.owners = own_inside g.owners c (SparseCell q) own in omega (arith, ok.size, ok.capacity)
 
     order_is : word_of (set w (4 * c + 3) word) c 3 ≡ word
     order_is = get_or-set_same w (4 * c + 3) word 0 inside
@@ -164,8 +164,8 @@ module _ (w : List ℕ) (g : Ledger) (cells : ℕ) (ok : IsImage w g cells) (key
     order_image : IsImage (set w (4 * c + 3) word) g cells
     order_image = let inner = not_first g c (SparseCell q) ok.head own (λ x. cc) in let cell : IsSparseCell w g c q = ok.each c (SparseCell q) own in
         let root : root_of (set w (4 * c + 3) word) ≡ root_of w = ap (λ (x : ℕ). half_of x false) (get_or-set_other w (4 * c + 3) 1 word 0 (λ z. omega arith)) in record {
-          wide = length-set w (4 * c + 3) word ∙ ok.wide;
-          room = ok.room;
+          size = length-set w (4 * c + 3) word ∙ ok.size;
+          capacity = ok.capacity;
           fewer = ok.fewer;
           small = ok.small;
           head = ok.head;
@@ -182,7 +182,7 @@ module _ (w : List ℕ) (g : Ledger) (cells : ℕ) (ok : IsImage w g cells) (key
         child_at : IsSparseCell w g c q → (b s : ℕ) → slot_at word b ≡ Some s → HasPath g (field (set w (4 * c + 3) word) c s) (q ++ b ∷ [])
         child_at cell b s e = ⊎_elim
             (λ (z : byte ≡ b). let two : Some (child_count (word_of w c 3)) ≡ Some s = sym finds_new ∙ (ap (λ (x : ℕ). slot_at word x) z ∙ e) in let is : child_count (word_of w c 3) ≡ s = cc in
-            let now : field (set w (4 * c + 3) word) c s ≡ entry = ap (λ (x : ℕ). field (set w (4 * c + 3) word) c x) (sym is) ∙ (slot_stays (child_count (word_of w c 3)) room ∙ slot) in
+            let now : field (set w (4 * c + 3) word) c s ≡ entry = ap (λ (x : ℕ). field (set w (4 * c + 3) word) c x) (sym is) ∙ (slot_stays (child_count (word_of w c 3)) capacity ∙ slot) in
             subst (λ (x : ℕ). HasPath g x (q ++ b ∷ [])) (sym now) (subst (HasPath g entry) (path ∙ ap (λ (x : ℕ). q ++ x ∷ []) z) at))
             (λ (ne : byte ≢ b). let was : slot_at (word_of w c 3) b ≡ Some s = sym (finds_old b (λ z. ne (sym z))) ∙ e in subst (λ (x : ℕ). HasPath g x (q ++ b ∷ [])) (sym (slot_stays s (let l = slot_is (word_of w c 3) b s was in l.0))) (cell.children b s was)) (cases_eq byte b)
 
@@ -195,7 +195,7 @@ module _ (w : List ℕ) (g : Ledger) (cells : ℕ) (ok : IsImage w g cells) (key
     of_sparse b = let now : slot_child (set w (4 * c + 3) word) c (slot_at (word_of (set w (4 * c + 3) word) c 3) b) ≡ slot_child (set w (4 * c + 3) word) c (slot_at word b) = ap (λ (x : ℕ). slot_child (set w (4 * c + 3) word) c (slot_at x b)) order_is in ⊎_elim
         (λ (z : byte ≡ b). inr (
           ap (λ (o : Option ℕ). slot_child w c o) (ap (λ (x : ℕ). slot_at (word_of w c 3) x) (sym z) ∙ absent),
-          now ∙ (ap (λ (o : Option ℕ). slot_child (set w (4 * c + 3) word) c o) (ap (λ (x : ℕ). slot_at word x) (sym z) ∙ finds_new) ∙ (slot_stays (child_count (word_of w c 3)) room ∙ slot)),
+          now ∙ (ap (λ (o : Option ℕ). slot_child (set w (4 * c + 3) word) c o) (ap (λ (x : ℕ). slot_at word x) (sym z) ∙ finds_new) ∙ (slot_stays (child_count (word_of w c 3)) capacity ∙ slot)),
         ))
         (λ (ne : byte ≢ b). inl (now ∙ (ap (λ (o : Option ℕ). slot_child (set w (4 * c + 3) word) c o) (finds_old b (λ z. ne (sym z))) ∙ old_child b (slot_at (word_of w c 3) b) refl))) (cases_eq byte b)
 
@@ -207,6 +207,6 @@ module _ (w : List ℕ) (g : Ledger) (cells : ℕ) (ok : IsImage w g cells) (key
           (λ a b r e at_a. let n = chain_of g a r at_a e in inl (chain_keeps w (set w (4 * c + 3) word) g ok.each a b (order_keep (a / 32) (ChainCell n.0 n.1) n.2 (λ x. cc))))
           (λ d b r e. ⊎_elim (λ (z : c ≡ d). subst (λ (x : ℕ). TurnsTo w (set w (4 * c + 3) word) g ok.each 0 entry (slot_child w x (slot_at (word_of w x 3) b)) (slot_child (set w (4 * c + 3) word) x (slot_at (word_of (set w (4 * c + 3) word) x 3) b))) z (of_sparse b))
           (λ (ne : c ≢ d). inl (sparse_keeps w (set w (4 * c + 3) word) g ok.each d b (order_apart d (λ z. ne (sym z))))) (cases_eq c d))
-          (λ d b r e. inl (wide_keeps w (set w (4 * c + 3) word) g ok.each d b r e (order_keep d (TopCell r) e (λ x. cc)) (λ k u v f. order_keep k (MidCell u v) f (λ x. cc)) (λ k u v y f. order_keep k (LeafCell u v y) f (λ x. cc))))
+          (λ d b r e. inl (split_node_keeps w (set w (4 * c + 3) word) g ok.each d b r e (order_keep d (TopCell r) e (λ x. cc)) (λ k u v f. order_keep k (MidCell u v) f (λ x. cc)) (λ k u v y f. order_keep k (LeafCell u v y) f (λ x. cc))))
           (λ d r e. same_field w (set w (4 * c + 3) word) d 1 (order_keep d (PrefixCell r) e (λ x. cc)) (omega arith)));
     }

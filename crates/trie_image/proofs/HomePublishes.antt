@@ -12,13 +12,13 @@ use Rattle.trie_image.specs.Image.{word_of, field, cell_byte, chain_child, node_
 use Rattle.trie_image.specs.Paths.{owner, HasPath}
 use Rattle.trie_image.specs.Cell.{IsPrefixCell, IsImage}
 use Rattle.trie_image.specs.Same.{SameWords}
-use Rattle.trie_image.specs.Relink.{Relinks}
-use Rattle.trie_image.proofs.Owners.{chain_of, sparse_of, wide_of, prefix_of}
+use Rattle.trie_image.proofs.Relinks.{Relinks}
+use Rattle.trie_image.proofs.Owners.{chain_of, sparse_of, split_node_of, prefix_of}
 use Rattle.trie_image.proofs.Kept.{same_field, same_byte}
 use Rattle.trie_image.proofs.Relinked.{child_turns}
 use Rattle.trie_image.proofs.Exits.{IsNode, own_children}
 use Rattle.trie_image.proofs.HomeStores.{stored_field, apart, apart_own, is_stored, stays, turns, byte_stays, slot_word, image_root, tail_stored, slot_stored, leaf_stored, content_stored, node_stored}
-use Rattle.trie_image.proofs.HomeChanges.{Publishes, chain_keeps, sparse_keeps, wide_keeps, record_keeps, changes_from}
+use Rattle.trie_image.proofs.HomeChanges.{Publishes, chain_keeps, sparse_keeps, split_node_keeps, record_keeps, changes_from}
 
 module _ (w : List ℕ) (g : Ledger) (cells : ℕ) (ok : IsImage w g cells) (key : List ℕ) (new : ℕ) where
   -- a field of one cell
@@ -86,7 +86,7 @@ module _ (w : List ℕ) (g : Ledger) (cells : ℕ) (ok : IsImage w g cells) (key
     nodes_keep : (a b : ℕ) (q : List ℕ) (k : Option Kind) → kind_at a ≡ k → HasPath g a q → node_child (stored_field w c i p') a b k ≡ node_child w a b k
     nodes_keep a b q (Some kind.Chain) e at = chains_keep a b q e at
     nodes_keep a b q (Some kind.Sparse) e at = sparse_keeps w (stored_field w c i p') g ok.each (a / 32) b (keeps c i p' o own small fits (a / 32) (SparseCell q) (sparse_of g a q at e) (sparse q))
-    nodes_keep a b q (Some kind.Wide) e at = let t = wide_of g a q at e in wide_keeps w (stored_field w c i p') g ok.each (a / 32) b q t (keeps c i p' o own small fits (a / 32) (TopCell q) t (top q))
+    nodes_keep a b q (Some kind.Wide) e at = let t = split_node_of g a q at e in split_node_keeps w (stored_field w c i p') g ok.each (a / 32) b q t (keeps c i p' o own small fits (a / 32) (TopCell q) t (top q))
         (λ m t j f. keeps c i p' o own small fits m (MidCell t j) f (mid t j)) (λ l t j k f. keeps c i p' o own small fits l (LeafCell t j k) f (leaf t j k))
     nodes_keep a b q _ e at = refl
 

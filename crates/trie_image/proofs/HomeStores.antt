@@ -23,7 +23,7 @@ stored_field w c i p = set w (4 * c + i / 2) (with_half_of (word_of w c (i / 2))
 
 module _ (w : List ℕ) (g : Ledger) (cells c i p' : ℕ) (o : Owner) (ok : IsImage w g cells) (own : owner g c ≡ Some o) (small : i < 8) (fits : p' < 2 ^ 32) where
   pub reach : 4 * c + i / 2 < length w
-  reach = let l : c < length g.owners = own_inside g.owners c o own in omega (arith, ok.wide, ok.room)
+  reach = let l : c < length g.owners = own_inside g.owners c o own in omega (arith, ok.size, ok.capacity)
 
   here : word_of (stored_field w c i p') c (i / 2) ≡ with_half_of (word_of w c (i / 2)) (i % 2 == 1) p'
   here = get_or-set_same w (4 * c + i / 2) (with_half_of (word_of w c (i / 2)) (i % 2 == 1) p') 0 reach
@@ -61,8 +61,8 @@ module _ (w : List ℕ) (g : Ledger) (cells c i p' : ℕ) (o : Owner) (ok : IsIm
   -- the image, where the cell is what its owner says and the root has its path
   image_where : IsCell (stored_field w c i p') g c o → (root_of (stored_field w c i p') ≢ 0 → HasPath g (root_of (stored_field w c i p')) []) → ((d : ℕ) (x : Owner) → owner g d ≡ Some x → d ≢ c → IsCell (stored_field w c i p') g d x) → IsImage (stored_field w c i p') g cells
   image_where cell root rest = record {
-    wide = length-set w (4 * c + i / 2) (with_half_of (word_of w c (i / 2)) (i % 2 == 1) p') ∙ ok.wide;
-    room = ok.room;
+    size = length-set w (4 * c + i / 2) (with_half_of (word_of w c (i / 2)) (i % 2 == 1) p') ∙ ok.size;
+    capacity = ok.capacity;
     fewer = ok.fewer;
     small = ok.small;
     head = ok.head;

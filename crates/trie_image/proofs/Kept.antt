@@ -20,7 +20,7 @@ use Rattle.trie_image.specs.Paths.{owner, HasPath}
 use Rattle.trie_image.specs.Cell.{IsChainCell, IsSparseCell, IsTopCell, IsMidCell, IsLeafCell, IsPrefixCell, IsCell, IsImage}
 use Rattle.trie_image.specs.Same.{SameWords, SameCell, IsSame}
 use Rattle.trie_image.specs.Place.{IsPlaceAt, IsPlace, role_sees, place_sees}
-use Rattle.trie_image.proofs.Owners.{chain_of, sparse_of, wide_of, prefix_of}
+use Rattle.trie_image.proofs.Owners.{chain_of, sparse_of, split_node_of, prefix_of}
 use Rattle.trie_image.proofs.Readings.{frame, sees_none, sees_there}
 use Rattle.trie_image.proofs.Children.{closed}
 
@@ -101,15 +101,15 @@ module _ (w w' : List ℕ) where
           (λ (ne : m ≢ 0). let h : SameWords w w' (m / 32) = same (m / 32) (MidCell t i) (own ne) in let ok : IsMidCell w g (m / 32) t i = each (m / 32) (MidCell t i) (own ne) in
           ap (λ (x : ℕ). cond (m == 0) 0 x) (ap (λ (x : ℕ). leaf_child w' x b) (same_field (m / 32) (b / 8 % 8) h (omega arith)) ∙ leaf_same (field w (m / 32) (b / 8 % 8)) t i (b / 8 % 8) b (λ n. ok.leaves (b / 8 % 8) (omega arith) n))) (cases_eq m 0)
 
-      pub wide_same : (c b : ℕ) (q : List ℕ) → owner g c ≡ Some (TopCell q) → split_child w' c b ≡ split_child w c b
-      wide_same c b q o = let h : SameWords w w' c = same c (TopCell q) o in let ok : IsTopCell w g c q = each c (TopCell q) o in
+      pub split_node_same : (c b : ℕ) (q : List ℕ) → owner g c ≡ Some (TopCell q) → split_child w' c b ≡ split_child w c b
+      split_node_same c b q o = let h : SameWords w w' c = same c (TopCell q) o in let ok : IsTopCell w g c q = each c (TopCell q) o in
           ⊎_elim (λ (t : nat_lt b 256 ≡ true). let small : b < 256 = ltb-true b 256 t in ap (λ (x : ℕ). cond (nat_lt b 256) x 0) (ap (λ (x : ℕ). mid_child w' x b) (same_field c (b / 64) h (omega arith)) ∙ mid_same (field w c (b / 64)) c (b / 64) b (λ ne. ok.mids (b / 64) (omega arith) ne)))
           (λ (f : nat_lt b 256 ≡ false). cond-false (nat_lt b 256) (mid_child w' (field w' c (b / 64)) b) 0 f ∙ sym (cond-false (nat_lt b 256) (mid_child w (field w c (b / 64)) b) 0 f)) (cases_Bool (nat_lt b 256))
 
       node_same : (p : ℕ) (q : List ℕ) (b : ℕ) (k : Option Kind) → kind_at p ≡ k → HasPath g p q → node_child w' p b k ≡ node_child w p b k
       node_same p q b (Some kind.Chain) e at = chain_same p q b e at
       node_same p q b (Some kind.Sparse) e at = sparse_same (p / 32) b q (sparse_of g p q at e)
-      node_same p q b (Some kind.Wide) e at = wide_same (p / 32) b q (wide_of g p q at e)
+      node_same p q b (Some kind.Wide) e at = split_node_same (p / 32) b q (split_node_of g p q at e)
       node_same p q b _ e at = refl
 
       pub child_same : (p : ℕ) (q : List ℕ) (b : ℕ) (k : Option Kind) → kind_at p ≡ k → HasPath g p q → child_of w' p b k ≡ child_of w p b k
@@ -158,7 +158,7 @@ module _ (w w' : List ℕ) where
 pub keeps : (w w' : List ℕ) (g : Ledger) (cells : ℕ) → IsImage w g cells → IsSame w w' g
     → IsImage w' g cells × ((k : List ℕ) (p : ℕ) (q : List ℕ) → HasPath g p q → sees (reading w') p k ≡ sees (reading w) p k) × ((key : List ℕ) (pl : Place) → IsPlace w g key pl → IsPlace w' g key pl × (place_sees w' key pl ≡ place_sees w key pl))
 keeps w w' g cells ok same = let root : root_of w' ≡ root_of w = same.cells 0 HeadCell ok.head in (
-  record { wide = same.wide ∙ ok.wide; room = ok.room; fewer = ok.fewer; small = ok.small; head = ok.head; each = λ c o e. cell_kept w w' g c o (same.cells c o e) (ok.each c o e); root = λ ne. path_at w w' g [] (root_of w') (root_of w) root (ok.root (λ z. ne (root ∙ z))) },
+  record { size = same.size ∙ ok.size; capacity = ok.capacity; fewer = ok.fewer; small = ok.small; head = ok.head; each = λ c o e. cell_kept w w' g c o (same.cells c o e) (ok.each c o e); root = λ ne. path_at w w' g [] (root_of w') (root_of w) root (ok.root (λ z. ne (root ∙ z))) },
   (λ k p q at. sees_same w w' g ok.each same.cells k p q at),
   (λ key pl place. let h = place_same w w' g ok.each same.cells key pl.ptr pl.part pl.taken pl.role root ok.root place.role in (record { bytes = place.bytes; role = h.0 }, h.1)),
 )
@@ -190,7 +190,7 @@ root_same w i v ne = ap (λ (x : ℕ). half_of x false) (get_or-set_other w i 1 
 
 pub fresh : (w : List ℕ) (g : Ledger) (cells i v : ℕ) → IsImage w g cells → (4 * length g.owners ≤ i) ⊎ (i ≡ 0) → IsSame w (slice_set w i v) g
 fresh w g cells i v ok where_ = let used : 0 < length g.owners = own_inside g.owners 0 HeadCell ok.head in record {
-  wide = length-set w i v;
+  size = length-set w i v;
   cells = λ c o e. let inside : c < length g.owners = own_inside g.owners c o e in ⊎_elim
       (λ (far : 4 * length g.owners ≤ i). same_cell w (set w i v) c o (root_same w i v (λ z. omega arith)) (λ n. set_same w i v c (λ k l z. omega arith)))
       (λ (z : i ≡ 0). same_cell w (set w i v) c o (root_same w i v (λ y. omega arith)) (λ n. let ne = not_first g c o ok.head e n in set_same w i v c (λ k l y. ne (omega arith)))) where_;
@@ -214,8 +214,8 @@ free_slot w g cells c n p q ok is small free fits = let i : ℕ = 4 * c + n / 2 
     let not_head : SparseCell q ≡ HeadCell → ⊥ = λ e. cc in
     let ne = not_first g c (SparseCell q) ok.head is not_head in
     let inside : c < length g.owners = own_inside g.owners c (SparseCell q) is in
-    let reach : i < length w = omega (arith, ok.wide, ok.room) in record {
-      wide = length-set w i v;
+    let reach : i < length w = omega (arith, ok.size, ok.capacity) in record {
+      size = length-set w i v;
       cells = λ d o e. ⊎_elim
           (λ (z : d ≡ c). let at : owner g c ≡ Some o = subst (λ (x : ℕ). owner g x ≡ Some o) z e in let same : Some (SparseCell q) ≡ Some o = sym is ∙ at in let o_is : SparseCell q ≡ o = cc in
           subst (λ (x : Owner). SameCell w (set w i v) d x) o_is (subst (λ (x : ℕ). SameCell w (set w i v) x (SparseCell q)) (sym z)

@@ -75,7 +75,7 @@ module _ (w : List ℕ) (g : Ledger) where
     pub is_sparse : kind_at s.at ≡ Some kind.Sparse
     pub here : s.at / 32 ≡ s.cell
     pub absent : slot_at (word_of w s.cell 3) byte ≡ None
-    pub room : child_count (word_of w s.cell 3) < 6
+    pub capacity : child_count (word_of w s.cell 3) < 6
 
   -- a sparse node of six children, none under the byte
   pub record MetFull (key : List ℕ) (s : Stand) (taken : ℕ) : Type 0 where

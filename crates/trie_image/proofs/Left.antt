@@ -23,7 +23,7 @@ SameBelow w v used = (i : ℕ) → i < 4 * used → slice_index v i ≡ slice_in
 
 -- the store turns the field
 pub turned_by : (w w1 : List ℕ) (used cell place p' : ℕ) → SameBelow w w1 used → cell < used → place < 8 → p' < 2 ^ 32 → 4 * used ≤ length w1 → Turned w (stored_field w1 cell place p') used cell place p'
-turned_by w w1 used cell place p' below inside small fits room = let v : ℕ = with_half_of (word_of w1 cell (place / 2)) (place % 2 == 1) p' in record {
+turned_by w w1 used cell place p' below inside small fits capacity = let v : ℕ = with_half_of (word_of w1 cell (place / 2)) (place % 2 == 1) p' in record {
   others = λ c i l s ne. get_or-set_other w1 (4 * cell + place / 2) (4 * c + i) v 0 ne ∙ below (4 * c + i) (omega arith);
   there = get_or-set_same w1 (4 * cell + place / 2) v 0 (omega arith) ∙ ap (λ (x : ℕ). with_half_of x (place % 2 == 1) p') (below (4 * cell + place / 2) (omega arith));
   inside = inside;

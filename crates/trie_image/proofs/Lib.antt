@@ -7,6 +7,7 @@ pub mod Inside
 pub mod Kept
 pub mod WellFormedLemmas
 pub mod Betters
+pub mod Relinks
 pub mod Relinked
 pub mod Grown
 pub mod Live
@@ -33,7 +34,7 @@ pub mod StoreShape
 pub mod CellWords
 pub mod NewChains
 pub mod NewCells
-pub mod NewWide
+pub mod NewSplitNode
 pub mod Homes
 pub mod Leaves
 pub mod Exits
@@ -41,7 +42,7 @@ pub mod Chains
 pub mod NewPointers
 pub mod Splits
 pub mod Published
-pub mod Wides
+pub mod SplitNodes
 pub mod Stored
 pub mod Turned
 pub mod Seen
@@ -50,11 +51,18 @@ pub mod Prepared
 pub mod Mapped
 pub mod Places
 pub mod NewSplits
-pub mod WideOwners
+pub mod SplitNodeOwners
 pub mod Whole
 pub mod Left
 pub mod Ready
 pub mod Finals
+pub mod PutBy
 pub mod PutLaw
 pub mod Ways
-pub mod Held
+pub mod NextStores
+pub mod RecordWords
+pub mod PublicLaws
+pub mod PlannedWords
+pub mod Planned
+pub mod SplitNodeLengths
+pub mod Made

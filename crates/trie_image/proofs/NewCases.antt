@@ -5,22 +5,23 @@ use Rattle.std.proofs.Math.Nat.{mod-lt}
 use Rattle.cell_layout.specs.declared.Kind.TheVariants as kind
 use Rattle.cell_layout.specs.Pointers.{kind_at_offset, kind_at}
 use Rattle.cell_layout.proofs.PointerKinds.{is_kind}
+use Rattle.cell_layout.specs.Cells.{branch_words, prefix_words, lone_words}
 use Rattle.trie_image.specs.declared.Owner.{Owner}
 use Rattle.trie_image.specs.declared.Owner.TheVariants.{HeadCell, ChainCell, SparseCell, TopCell, MidCell, LeafCell, PrefixCell}
 use Rattle.trie_image.specs.declared.Ledger.{Ledger}
 use Rattle.trie_image.specs.declared.exit.Stand.{Stand}
 use Rattle.trie_image.specs.Image.{word_of, field, cell_byte}
-use Rattle.trie_image.specs.Paths.{owner, HasPath, at_sparse, at_wide, at_prefix}
+use Rattle.trie_image.specs.Paths.{owner, HasPath, at_sparse, at_split, at_prefix}
 use Rattle.trie_image.specs.Cell.{IsChainCell, IsImage}
-use Rattle.trie_image.specs.Body.{chain_rest, split_words, passed_words, prefix_words, lone_words, wide_words, over_passed, seven}
+use Rattle.trie_image.specs.Body.{chain_rest, passed_words, split_node_words, over_passed, seven}
 use Rattle.trie_image.proofs.Owners.{chain_of, sparse_of}
 use Rattle.trie_image.proofs.Children.{closed}
 use Rattle.trie_image.proofs.Exits.{rest_child, path_nonzero, IsNode}
-use Rattle.trie_image.proofs.BodyLengths.{length_split}
+use Rattle.trie_image.proofs.BodyLengths.{length_branch}
 use Rattle.trie_image.proofs.CellWords.{Stands, stands_front, stands_back}
 use Rattle.trie_image.proofs.NewChains.{Owns, AreCells, owns_back, cells_joined, cell_alone, owner_first}
 use Rattle.trie_image.proofs.NewCells.{split_is, prefix_is, mid_is, leaf_is}
-use Rattle.trie_image.proofs.NewWide.{kind_by_offset, path_small, wide_owners, wide_cells_are}
+use Rattle.trie_image.proofs.NewSplitNode.{kind_by_offset, path_small, split_node_owners, split_cells_are}
 use Rattle.trie_image.proofs.NewOwners.{passed_owners}
 use Rattle.trie_image.proofs.NewFurther.{passed_are, over_path}
 
@@ -46,8 +47,8 @@ module _ (w w' : List ℕ) (g g' : Ledger) (cells : ℕ) (ok : IsImage w g cells
   sparse_at : (path : List ℕ) → owner g' x ≡ Some (SparseCell path) → HasPath g' (32 * x + 30) path
   sparse_at path o = let n = node_at 30 (omega arith) (omega arith) in at_sparse n.2 (subst (λ (c : ℕ). owner g' c ≡ Some (SparseCell path)) (sym n.0) o)
 
-  wide_at : (path : List ℕ) → owner g' x ≡ Some (TopCell path) → HasPath g' (32 * x + 28) path
-  wide_at path o = let n = node_at 28 (omega arith) (omega arith) in at_wide n.2 (subst (λ (c : ℕ). owner g' c ≡ Some (TopCell path)) (sym n.0) o)
+  split_node_at : (path : List ℕ) → owner g' x ≡ Some (TopCell path) → HasPath g' (32 * x + 28) path
+  split_node_at path o = let n = node_at 28 (omega arith) (omega arith) in at_split n.2 (subst (λ (c : ℕ). owner g' c ≡ Some (TopCell path)) (sym n.0) o)
 
   prefix_at : (path : List ℕ) → owner g' x ≡ Some (PrefixCell path) → HasPath g' (32 * x + 31) path
   prefix_at path o = let n = node_at 31 (omega arith) (omega arith) in at_prefix n.2 (subst (λ (c : ℕ). owner g' c ≡ Some (PrefixCell path)) (sym n.0) o)
@@ -55,8 +56,8 @@ module _ (w w' : List ℕ) (g g' : Ledger) (cells : ℕ) (ok : IsImage w g cells
   -- another byte in a chain cell, and the key's end
   module _ (s : Stand) (q m path : List ℕ) (entered : s.entered ≢ 0 → HasPath g s.entered q) (at_path : HasPath g s.at path) (forward : s.at ≡ s.entered + length m) (offset : length m ≤ s.at % 32) (passed : path ≡ q ++ m) where
     pub other_byte : (b : ℕ) → kind_at s.at ≡ Some kind.Chain → cell_byte w (s.at / 32) (s.at % 32) ≢ b → b < 256 → HasPath g' entry (path ++ b ∷ []) → Owns g' x (SparseCell path ∷ passed_owners s path)
-        → Stands w' x (split_words (cell_byte w (s.at / 32) (s.at % 32)) (chain_rest w s.at) b entry ++ passed_words w s (32 * x + 30)) → AreCells w' g' x (SparseCell path ∷ passed_owners s path) × HasPath g' (over_passed s x 30) q
-    other_byte b is ne small at own h = let split : List ℕ = split_words (cell_byte w (s.at / 32) (s.at % 32)) (chain_rest w s.at) b entry in let after : List ℕ = passed_words w s (32 * x + 30) in
+        → Stands w' x (branch_words (cell_byte w (s.at / 32) (s.at % 32)) (chain_rest w s.at) b entry ++ passed_words w s (32 * x + 30)) → AreCells w' g' x (SparseCell path ∷ passed_owners s path) × HasPath g' (over_passed s x 30) q
+    other_byte b is ne small at own h = let split : List ℕ = branch_words (cell_byte w (s.at / 32) (s.at % 32)) (chain_rest w s.at) b entry in let after : List ℕ = passed_words w s (32 * x + 30) in
         let own_passed : Owns g' (x + 1) (passed_owners s path) = owns_back g' x (x + 1) (SparseCell path ∷ []) (passed_owners s path) refl own in
         let child : HasPath g' (chain_rest w s.at) (path ++ cell_byte w (s.at / 32) (s.at % 32) ∷ []) = grows (chain_rest w s.at) (path ++ cell_byte w (s.at / 32) (s.at % 32) ∷ []) (rest_path w g cells ok s.at path at_path is) in
         let node : HasPath g' (32 * x + 30) path = sparse_at path (owner_first g' x (SparseCell path) (passed_owners s path) own) in (
@@ -64,7 +65,7 @@ module _ (w w' : List ℕ) (g g' : Ledger) (cells : ℕ) (ok : IsImage w g cells
               (cell_alone w' g' x (SparseCell path) (split_is w' g' x (cell_byte w (s.at / 32) (s.at % 32)) (chain_rest w s.at) b entry path (stands_front w' x split after h) ne (mod-lt _ (omega arith)) small
               (path_small g' (chain_rest w s.at) (path ++ cell_byte w (s.at / 32) (s.at % 32) ∷ []) head child) (path_small g' entry (path ++ b ∷ []) head at) child at))
               (passed_are w g cells ok s q m path entered at_path forward offset passed w' g' x (inl is) own_passed low (32 * x + 30)
-              (stands_back w' x 1 split after (length_split (cell_byte w (s.at / 32) (s.at % 32)) (chain_rest w s.at) b entry) h) node),
+              (stands_back w' x 1 split after (length_branch (cell_byte w (s.at / 32) (s.at % 32)) (chain_rest w s.at) b entry) h) node),
           over_path w g cells ok s q m path entered at_path forward offset passed w' g' x (inl is) own_passed low 30 node,
         )
 
@@ -80,10 +81,10 @@ module _ (w w' : List ℕ) (g g' : Ledger) (cells : ℕ) (ok : IsImage w g cells
         )
 
   -- a full sparse node
-  pub full_node : (p b : ℕ) (path : List ℕ) → HasPath g p path → kind_at p ≡ Some kind.Sparse → HasPath g' entry (path ++ b ∷ []) → Owns g' x (wide_owners (seven (word_of w (p / 32) 3) b) x path) → Stands w' x (wide_words w (p / 32) b entry x)
-      → AreCells w' g' x (wide_owners (seven (word_of w (p / 32) 3) b) x path) × HasPath g' (32 * x + 28) path
+  pub full_node : (p b : ℕ) (path : List ℕ) → HasPath g p path → kind_at p ≡ Some kind.Sparse → HasPath g' entry (path ++ b ∷ []) → Owns g' x (split_node_owners (seven (word_of w (p / 32) 3) b) x path) → Stands w' x (split_node_words w (p / 32) b entry x)
+      → AreCells w' g' x (split_node_owners (seven (word_of w (p / 32) 3) b) x path) × HasPath g' (32 * x + 28) path
   full_node p b path at_p is at own h =
-      (wide_cells_are w w' g g' (p / 32) b entry x path (seven (word_of w (p / 32) 3) b) own low (ok.each (p / 32) (SparseCell path) (sparse_of g p path at_p is)) grows head at h, wide_at path (owner_first g' x (TopCell path) _ own))
+      (split_cells_are w w' g g' (p / 32) b entry x path (seven (word_of w (p / 32) 3) b) own low (ok.each (p / 32) (SparseCell path) (sparse_of g p path at_p is)) grows head at h, split_node_at path (owner_first g' x (TopCell path) _ own))
 
   -- a split node without the byte's leaf cell, or mid cell
   pub no_leaf : (t b : ℕ) (path : List ℕ) → b < 256 → owner g t ≡ Some (TopCell path) → HasPath g' entry (path ++ b ∷ []) → Owns g' x (LeafCell t (b / 64) (b / 8 % 8) ∷ []) → Stands w' x (lone_words (b % 8) entry)

@@ -7,11 +7,14 @@ use Rattle.std.proofs.lemmas.List.FromFn.{get_or-map-range_with_len, length-map-
 use Rattle.std.proofs.lemmas.List.Sorted.{IsPermutation-refl}
 use Rattle.std.specs.List.{range_with_len}
 use Rattle.std.specs.List.Sorted.{IsPermutation}
+use Rattle.cell_layout.proofs.WordsAt.{length_record_words}
 use Rattle.cell_layout.specs.declared.Kind.TheVariants.{Content, Chain, Sparse, Wide}
 use Rattle.cell_layout.specs.Words.{half_of, byte_of}
 use Rattle.cell_layout.specs.Pointers.{kind_at}
 use Rattle.cell_layout.specs.Slots.{digits, slots_of, slot_at, child_count, Ascends, IsSparse}
 use Rattle.cell_layout.proofs.Added.{slot_is}
+use Rattle.cell_layout.specs.Cells.{record_cells, record_word, value_word, record_words, chain_cell, two_words, branch_words, prefix_words, lone_words}
+use Rattle.cell_layout.proofs.CellBytes.{pair_low, pair_high, byte_of_chain_cell, tail_of_chain_cell}
 use Rattle.trie_image.specs.declared.Put.{Put}
 use Rattle.trie_image.specs.declared.Owner.{Owner}
 use Rattle.trie_image.specs.declared.Owner.TheVariants.{RecordCell, TopCell, LeafCell}
@@ -19,9 +22,9 @@ use Rattle.trie_image.specs.declared.Ledger.{Ledger}
 use Rattle.trie_image.specs.declared.exit.Stand.{Stand}
 use Rattle.trie_image.specs.Image.{word_of, field, cell_byte}
 use Rattle.trie_image.specs.Paths.{owner, chain_path, HasPath}
-use Rattle.trie_image.specs.Cell.{record_cells, record_word, IsChainCell, IsSparseCell, IsMidCell, IsLeafCell, IsPrefixCell, IsCell}
-use Rattle.trie_image.specs.Body.{value_word, record_words, chain_cell, passed_bytes, two_words, split_words, prefix_words, lone_words}
-use Rattle.trie_image.proofs.CellWords.{Stands, pair_low, pair_high, byte_of_chain_cell, tail_of_chain_cell, bytes_passed, passed_byte, lone_field, lone_other}
+use Rattle.trie_image.specs.Cell.{IsChainCell, IsSparseCell, IsMidCell, IsLeafCell, IsPrefixCell, IsCell}
+use Rattle.trie_image.specs.Body.{passed_bytes}
+use Rattle.trie_image.proofs.CellWords.{Stands, bytes_passed, passed_byte, lone_field, lone_other}
 use Rattle.trie_image.proofs.NewChains.{AreCells}
 
 -- the owners of the cells of the record of put n
@@ -37,9 +40,6 @@ get_mapped f a (suc k) (suc j) o e = let h = get_mapped f (a + 1) k j o e in let
 record_word_is : (number : ℕ) (value : List ℕ) (k : ℕ) → k < 4 * record_cells (length value) → slice_index (record_words number value) k ≡ record_word number value k
 record_word_is number value zero l = refl
 record_word_is number value (suc k) l = get_or-map-range_with_len (value_word value) 0 (4 * record_cells (length value) - 1) k k 0 (omega arith) (omega arith)
-
-pub length_record_words : (number : ℕ) (value : List ℕ) → length (record_words number value) ≡ 4 * record_cells (length value)
-length_record_words number value = omega (arith, length-map-range_with_len (value_word value) 0 (4 * record_cells (length value) - 1))
 
 pub record_cells_are : (w : List ℕ) (g : Ledger) (c n : ℕ) (put : Put) → Stands w c (record_words (n + 1) put.value) → put.cell ≡ c → slice_get g.puts n ≡ Some put → AreCells w g c (record_owners n (record_cells (length put.value)))
 record_cells_are w g c n put h at there j o e = let m = get_mapped (λ j. RecordCell n j) 0 (record_cells (length put.value)) j o e in
@@ -96,7 +96,7 @@ module _ (w : List ℕ) (g : Ledger) (c lesser low greater high : ℕ) (q : List
         by_slot b s (omega (arith, f.1, two)) f.2;
   }
 
-pub split_is : (w : List ℕ) (g : Ledger) (c old child new entry : ℕ) (q : List ℕ) → Stands w c (split_words old child new entry) → old ≢ new → old < 256 → new < 256 → child < 2 ^ 32 → entry < 2 ^ 32 → HasPath g child (q ++ old ∷ []) → HasPath g entry (q ++ new ∷ []) → IsSparseCell w g c q
+pub split_is : (w : List ℕ) (g : Ledger) (c old child new entry : ℕ) (q : List ℕ) → Stands w c (branch_words old child new entry) → old ≢ new → old < 256 → new < 256 → child < 2 ^ 32 → entry < 2 ^ 32 → HasPath g child (q ++ old ∷ []) → HasPath g entry (q ++ new ∷ []) → IsSparseCell w g c q
 split_is w g c old child new entry q h ne so sn fc fe at_old at_new = cond_both (nat_le old new) (two_words old child new entry) (two_words new entry old child) (λ (l : List ℕ). Stands w c l → IsSparseCell w g c q)
     (λ e h. let le = leb-true old new e in two_is w g c old child new entry q h (omega arith) sn fc at_old at_new)
     (λ e h. let le = leb-false old new e in two_is w g c new entry old child q h (omega arith) so fe at_new at_old) h

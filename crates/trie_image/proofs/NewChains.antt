@@ -2,17 +2,18 @@
 use Rattle.std.proofs.Common.{◌≡◌, ℕ, zero, suc, ◌+◌, ◌-◌, ◌*◌, ◌/◌, ◌%◌, ◌^◌, ◌<◌, ◌≤◌, true, List, [], ◌∷◌, ◌++◌, length, take, drop, slice_index, slice_get, Some, refl, sym, ap, ◌∙◌, subst, arith, length-append, ⊎_elim, append_assoc}
 use Rattle.std.proofs.lemmas.List.{get_or-append-add, length-take-le, length-drop, take-append-drop}
 use Rattle.std.proofs.Math.Seq.{take-append_seam}
-use Rattle.cell_layout.specs.Words.{half_of, byte_of}
+use Rattle.cell_layout.specs.Words.{half_of, byte_of, AreBytes}
 use Rattle.cell_layout.proofs.PointerKinds.{is_chain}
+use Rattle.cell_layout.specs.Cells.{chain_cell, padded, chain_from, next_cell}
+use Rattle.cell_layout.proofs.CellBytes.{bytes_taken, bytes_dropped, byte_of_chain_cell, tail_of_chain_cell, bytes_padded, padded_byte}
 use Rattle.trie_image.specs.declared.Owner.{Owner}
 use Rattle.trie_image.specs.declared.Owner.TheVariants.{ChainCell}
 use Rattle.trie_image.specs.declared.Ledger.{Ledger}
 use Rattle.trie_image.specs.Paths.{owner, HasPath, at_chain}
 use Rattle.trie_image.specs.Cell.{IsChainCell, IsCell}
-use Rattle.trie_image.specs.Body.{chain_cell, padded, chain_from, next_cell}
 use Rattle.trie_image.proofs.Grown.{get_either}
 use Rattle.trie_image.proofs.Owners.{get_front}
-use Rattle.trie_image.proofs.CellWords.{Stands, stands_front, stands_back, AreBytes, bytes_taken, bytes_dropped, byte_of_chain_cell, tail_of_chain_cell, bytes_padded, padded_byte}
+use Rattle.trie_image.proofs.CellWords.{Stands, stands_front, stands_back}
 
 -- the cells from a cell on have these owners, and are what these owners say
 abbrev pub Owns : Ledger → ℕ → List Owner → Type 0

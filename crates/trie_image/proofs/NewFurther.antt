@@ -4,14 +4,15 @@ use Rattle.std.proofs.lemmas.Bool.{eqb-false}
 use Rattle.cell_layout.specs.declared.Kind.TheVariants as kind
 use Rattle.cell_layout.specs.Pointers.{kind_at}
 use Rattle.cell_layout.proofs.PointerKinds.{is_kind, is_chain}
+use Rattle.cell_layout.specs.Cells.{chain_cell}
 use Rattle.trie_image.specs.declared.Owner.{Owner}
 use Rattle.trie_image.specs.declared.Owner.TheVariants.{HeadCell, ChainCell, SparseCell, TopCell, PrefixCell}
 use Rattle.trie_image.specs.declared.Ledger.{Ledger}
 use Rattle.trie_image.specs.declared.exit.Stand.{Stand}
-use Rattle.trie_image.specs.Paths.{owner, chain_path, HasPath, at_content, at_chain, at_sparse, at_wide, at_prefix}
+use Rattle.trie_image.specs.Paths.{owner, chain_path, HasPath, at_content, at_chain, at_sparse, at_split, at_prefix}
 use Rattle.trie_image.specs.Cell.{IsChainCell, IsImage}
-use Rattle.trie_image.specs.Body.{chain_cell, passed_bytes, passed_words, over_passed}
-use Rattle.trie_image.proofs.Owners.{chain_of, sparse_of, wide_of}
+use Rattle.trie_image.specs.Body.{passed_bytes, passed_words, over_passed}
+use Rattle.trie_image.proofs.Owners.{chain_of, sparse_of, split_node_of}
 use Rattle.trie_image.proofs.Kept.{not_first}
 use Rattle.trie_image.proofs.Exits.{path_nonzero, IsNode}
 use Rattle.trie_image.proofs.CellWords.{Stands}
@@ -28,15 +29,15 @@ sparse_alone : (g : Ledger) (a p : ℕ) (q r : List ℕ) → HasPath g a q → a
 sparse_alone g a p q r (at_content n e k o h s) same is own = let l : 2 ^ 31 ≤ a = is_kind a (Some kind.Content) k in let m : (p ≢ 0) × (p < 2 ^ 31) × (p % 32 ≡ 30) = is_kind p (Some kind.Sparse) is in absurd (omega (arith, m.1))
 sparse_alone g a p q r (at_chain from t k o h s) same is own = let two : Some (ChainCell from t) ≡ Some (SparseCell r) = sym o ∙ own in absurd (cc)
 sparse_alone g a p q r (at_sparse k o) same is own = let l : (a ≢ 0) × (a < 2 ^ 31) × (a % 32 ≡ 30) = is_kind a (Some kind.Sparse) k in let m : (p ≢ 0) × (p < 2 ^ 31) × (p % 32 ≡ 30) = is_kind p (Some kind.Sparse) is in omega (arith, l.2, m.2)
-sparse_alone g a p q r (at_wide k o) same is own = let two : Some (TopCell q) ≡ Some (SparseCell r) = sym o ∙ own in absurd (cc)
+sparse_alone g a p q r (at_split k o) same is own = let two : Some (TopCell q) ≡ Some (SparseCell r) = sym o ∙ own in absurd (cc)
 sparse_alone g a p q r (at_prefix k o) same is own = let two : Some (PrefixCell q) ≡ Some (SparseCell r) = sym o ∙ own in absurd (cc)
 
-wide_alone : (g : Ledger) (a p : ℕ) (q r : List ℕ) → HasPath g a q → a / 32 ≡ p / 32 → kind_at p ≡ Some kind.Wide → owner g (a / 32) ≡ Some (TopCell r) → a ≡ p
-wide_alone g a p q r (at_content n e k o h s) same is own = let l : 2 ^ 31 ≤ a = is_kind a (Some kind.Content) k in let m : (p ≢ 0) × (p < 2 ^ 31) × (p % 32 ≡ 28) = is_kind p (Some kind.Wide) is in absurd (omega (arith, m.1))
-wide_alone g a p q r (at_chain from t k o h s) same is own = let two : Some (ChainCell from t) ≡ Some (TopCell r) = sym o ∙ own in absurd (cc)
-wide_alone g a p q r (at_wide k o) same is own = let l : (a ≢ 0) × (a < 2 ^ 31) × (a % 32 ≡ 28) = is_kind a (Some kind.Wide) k in let m : (p ≢ 0) × (p < 2 ^ 31) × (p % 32 ≡ 28) = is_kind p (Some kind.Wide) is in omega (arith, l.2, m.2)
-wide_alone g a p q r (at_sparse k o) same is own = let two : Some (SparseCell q) ≡ Some (TopCell r) = sym o ∙ own in absurd (cc)
-wide_alone g a p q r (at_prefix k o) same is own = let two : Some (PrefixCell q) ≡ Some (TopCell r) = sym o ∙ own in absurd (cc)
+split_node_alone : (g : Ledger) (a p : ℕ) (q r : List ℕ) → HasPath g a q → a / 32 ≡ p / 32 → kind_at p ≡ Some kind.Wide → owner g (a / 32) ≡ Some (TopCell r) → a ≡ p
+split_node_alone g a p q r (at_content n e k o h s) same is own = let l : 2 ^ 31 ≤ a = is_kind a (Some kind.Content) k in let m : (p ≢ 0) × (p < 2 ^ 31) × (p % 32 ≡ 28) = is_kind p (Some kind.Wide) is in absurd (omega (arith, m.1))
+split_node_alone g a p q r (at_chain from t k o h s) same is own = let two : Some (ChainCell from t) ≡ Some (TopCell r) = sym o ∙ own in absurd (cc)
+split_node_alone g a p q r (at_split k o) same is own = let l : (a ≢ 0) × (a < 2 ^ 31) × (a % 32 ≡ 28) = is_kind a (Some kind.Wide) k in let m : (p ≢ 0) × (p < 2 ^ 31) × (p % 32 ≡ 28) = is_kind p (Some kind.Wide) is in omega (arith, l.2, m.2)
+split_node_alone g a p q r (at_sparse k o) same is own = let two : Some (SparseCell q) ≡ Some (TopCell r) = sym o ∙ own in absurd (cc)
+split_node_alone g a p q r (at_prefix k o) same is own = let two : Some (PrefixCell q) ≡ Some (TopCell r) = sym o ∙ own in absurd (cc)
 
 module _ (w : List ℕ) (g : Ledger) (cells : ℕ) (ok : IsImage w g cells) (s : Stand) (q m path : List ℕ) (entered : s.entered ≢ 0 → HasPath g s.entered q) (at_path : HasPath g s.at path) (forward : s.at ≡ s.entered + length m) (offset : length m ≤ s.at % 32) (passed : path ≡ q ++ m) where
   -- the chain cell whose bytes were passed
@@ -61,8 +62,8 @@ module _ (w : List ℕ) (g : Ledger) (cells : ℕ) (ok : IsImage w g cells) (s :
   still_chain ne (inl k) = k
   still_chain ne (inr (inl k)) = let o = sparse_of g s.at path at_path k in
       absurd (ne (sym (sparse_alone g s.entered s.at q path (there (SparseCell path) o (λ x. cc)) (sym same_cell) k (subst (λ (c : ℕ). owner g c ≡ Some (SparseCell path)) same_cell o))))
-  still_chain ne (inr (inr k)) = let o = wide_of g s.at path at_path k in
-      absurd (ne (sym (wide_alone g s.entered s.at q path (there (TopCell path) o (λ x. cc)) (sym same_cell) k (subst (λ (c : ℕ). owner g c ≡ Some (TopCell path)) same_cell o))))
+  still_chain ne (inr (inr k)) = let o = split_node_of g s.at path at_path k in
+      absurd (ne (sym (split_node_alone g s.entered s.at q path (there (TopCell path) o (λ x. cc)) (sym same_cell) k (subst (λ (c : ℕ). owner g c ≡ Some (TopCell path)) same_cell o))))
 
   entered_in : (from : ℕ) (t : List ℕ) → owner g (s.at / 32) ≡ Some (ChainCell from t) → s.entered % 32 ≤ 27 → s.entered < 2 ^ 31 → (from ≤ s.entered % 32) × (q ≡ chain_path t (s.entered % 32))
   entered_in from t own few small = let at : HasPath g s.entered q = there (ChainCell from t) own (λ x. cc) in

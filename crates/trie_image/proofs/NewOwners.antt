@@ -5,6 +5,9 @@ use Rattle.std.specs.List.{range_with_len}
 use Rattle.cell_layout.specs.declared.Kind.TheVariants as kind
 use Rattle.cell_layout.specs.Pointers.{kind_at, record_cell}
 use Rattle.cell_layout.proofs.PointerKinds.{is_chain}
+use Rattle.cell_layout.specs.Cells.{record_cells, record_words, chain_cells, chain_from}
+use Rattle.cell_layout.specs.Words.{AreBytes}
+use Rattle.cell_layout.proofs.WordsAt.{length_record_words}
 use Rattle.trie_image.specs.declared.Put.{Put}
 use Rattle.trie_image.specs.declared.Owner.{Owner}
 use Rattle.trie_image.specs.declared.Owner.TheVariants.{RecordCell, ChainCell, SparseCell, MidCell, LeafCell, PrefixCell}
@@ -14,14 +17,13 @@ use Rattle.trie_image.specs.declared.exit.Meets.{Meets}
 use Rattle.trie_image.specs.declared.exit.Meets.TheVariants.{OtherByte, End, Full, NoLeaf, NoMid, PastContent}
 use Rattle.trie_image.specs.Image.{word_of}
 use Rattle.trie_image.specs.Paths.{owner, HasPath, at_content}
-use Rattle.trie_image.specs.Cell.{record_cells}
-use Rattle.trie_image.specs.Body.{record_words, chain_cells, chain_from, seven}
+use Rattle.trie_image.specs.Body.{seven}
 use Rattle.trie_image.specs.Stores.{content_of, entry_of, first_further}
 use Rattle.trie_image.proofs.NewPointers.{content_kind}
-use Rattle.trie_image.proofs.CellWords.{Stands, stands_front, stands_back, AreBytes}
+use Rattle.trie_image.proofs.CellWords.{Stands, stands_front, stands_back}
 use Rattle.trie_image.proofs.NewChains.{Owns, AreCells, owns_front, owns_back, cells_joined, owner_first, chain_owners, length_chain_owners, chain_enters, chain_cells_are}
-use Rattle.trie_image.proofs.NewCells.{record_owners, length_record_words, record_cells_are}
-use Rattle.trie_image.proofs.NewWide.{wide_owners}
+use Rattle.trie_image.proofs.NewCells.{record_owners, record_cells_are}
+use Rattle.trie_image.proofs.NewSplitNode.{split_node_owners}
 
 -- the cell for the passed bytes, whose tail has the path
 abbrev pub passed_owners : Stand → List ℕ → List Owner
@@ -31,7 +33,7 @@ passed_owners s path = cond (s.at == s.entered) [] (ChainCell (28 - (s.at - s.en
 abbrev pub further_owners : List ℕ → Meets → Stand → List ℕ → ℕ → ℕ → ℕ → List Owner
 further_owners w OtherByte s path b t x = SparseCell path ∷ passed_owners s path
 further_owners w End s path b t x = PrefixCell path ∷ passed_owners s path
-further_owners w Full s path b t x = wide_owners (seven (word_of w (s.at / 32) 3) b) x path
+further_owners w Full s path b t x = split_node_owners (seven (word_of w (s.at / 32) 3) b) x path
 further_owners w NoLeaf s path b t x = LeafCell t (b / 64) (b / 8 % 8) ∷ []
 further_owners w NoMid s path b t x = MidCell s.cell (b / 64) ∷ LeafCell s.cell (b / 64) (b / 8 % 8) ∷ []
 further_owners w PastContent s path b t x = PrefixCell path ∷ []
@@ -49,7 +51,7 @@ pub length_first_owners : (n : ℕ) (value start rest : List ℕ) → length (fi
 length_first_owners n value start rest = omega (arith, length-append (record_owners n (record_cells (length value))) (chain_owners (chain_cells (length rest)) start rest), length_range_owners n 0 (record_cells (length value)), length_chain_owners (chain_cells (length rest)) start rest)
 
 -- the new record and the chain of the rest
-module _ (g' : Ledger) (n used : ℕ) (put : Put) (start rest : List ℕ) (more : List Owner) (own : Owns g' used (first_owners n put.value start rest ++ more)) (there : slice_get g'.puts n ≡ Some put) (some_ : 1 ≤ used) (room : first_further used put.value rest ≤ 2 ^ 22) (whole : start ++ rest ≡ put.key) where
+module _ (g' : Ledger) (n used : ℕ) (put : Put) (start rest : List ℕ) (more : List Owner) (own : Owns g' used (first_owners n put.value start rest ++ more)) (there : slice_get g'.puts n ≡ Some put) (some_ : 1 ≤ used) (capacity : first_further used put.value rest ≤ 2 ^ 22) (whole : start ++ rest ≡ put.key) where
   own_first : Owns g' used (first_owners n put.value start rest)
   own_first = owns_front g' used (first_owners n put.value start rest) more own
 

@@ -5,10 +5,11 @@ use Rattle.cell_layout.specs.declared.Kind.{Kind}
 use Rattle.cell_layout.specs.declared.Kind.TheVariants as kind
 use Rattle.cell_layout.specs.Words.{half_of}
 use Rattle.cell_layout.specs.Pointers.{kind_at, kind_at_offset, record_cell}
+use Rattle.cell_layout.specs.Cells.{prefix_words}
+use Rattle.cell_layout.proofs.CellBytes.{pair_low, pair_high}
 use Rattle.trie_image.specs.Image.{field, child_of, content_record, record_of}
-use Rattle.trie_image.specs.Body.{prefix_words}
 use Rattle.trie_image.specs.Stores.{content_of}
-use Rattle.trie_image.proofs.CellWords.{Stands, pair_low, pair_high}
+use Rattle.trie_image.proofs.CellWords.{Stands}
 
 -- a pointer with this offset into a cell other than 0
 pub offset_kind : (p x o : ℕ) → p ≡ 32 * x + o → 1 ≤ x → x < 2 ^ 26 → o < 32 → kind_at p ≡ kind_at_offset o

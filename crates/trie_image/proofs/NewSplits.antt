@@ -2,16 +2,16 @@
 use Rattle.std.proofs.Common.{◌≡◌, ◌≢◌, ◌⊎◌, ℕ, zero, suc, ◌+◌, ◌-◌, ◌*◌, ◌/◌, ◌%◌, ◌<◌, ◌==◌, nat_lt, List, [], ◌∷◌, ◌++◌, length, take, drop, slice_get, Some, refl, sym, ap, ◌∙◌, subst, inl, inr, ⊎_elim, arith, append_assoc, append-nil, lt-ltb, eq-eqb, ne_eqb}
 use Rattle.std.proofs.lemmas.Bool.{cond_both, cond-true, cond-false}
 use Rattle.std.proofs.lemmas.List.{take-append-drop}
+use Rattle.cell_layout.specs.Cells.{record_cells, chain_cells}
 use Rattle.trie_image.specs.declared.Put.{Put}
 use Rattle.trie_image.specs.declared.Owner.{Owner}
 use Rattle.trie_image.specs.declared.Owner.TheVariants.{RecordCell, ChainCell, SparseCell, TopCell, MidCell, LeafCell, PrefixCell}
 use Rattle.trie_image.specs.declared.Ledger.{Ledger}
 use Rattle.trie_image.specs.declared.exit.Stand.{Stand}
 use Rattle.trie_image.specs.Image.{field, leaf_child, mid_child, split_child}
-use Rattle.trie_image.specs.Paths.{owner, chain_path, HasPath, at_content, at_chain, at_sparse, at_wide, at_prefix}
-use Rattle.trie_image.specs.Cell.{record_cells, IsTopCell, IsMidCell, IsImage}
+use Rattle.trie_image.specs.Paths.{owner, chain_path, HasPath, at_content, at_chain, at_sparse, at_split, at_prefix}
+use Rattle.trie_image.specs.Cell.{IsTopCell, IsMidCell, IsImage}
 use Rattle.trie_image.specs.WellFormed.{HasSplitNodes}
-use Rattle.trie_image.specs.Body.{chain_cells}
 use Rattle.trie_image.proofs.Grown.{get_either}
 use Rattle.trie_image.proofs.Owners.{get_front, grown}
 use Rattle.trie_image.proofs.NewChains.{chain_owners}
@@ -89,7 +89,7 @@ module _ (w w' : List ℕ) (g : Ledger) (own : List Owner) (put : Put) (news : A
   paths_lead p q (at_content n e k o h s) = (n, e, [], h, sym s ∙ sym (append-nil q))
   paths_lead p q (at_chain from t k o h s) = ⊎_elim (λ (e : owner g (p / 32) ≡ Some (ChainCell from t)). by_old p q (at_chain from t k e h s)) (λ (e : Towards put.key t). subst Leads (sym s) (by_new (chain_path t (p % 32)) (front_of (length t + p % 32 - 28) t e))) (old_or_new w' g own put news (p / 32) (ChainCell from t) o)
   paths_lead p q (at_sparse k o) = ⊎_elim (λ (e : owner g (p / 32) ≡ Some (SparseCell q)). by_old p q (at_sparse k e)) (λ (e : Towards put.key q). by_new q e) (old_or_new w' g own put news (p / 32) (SparseCell q) o)
-  paths_lead p q (at_wide k o) = ⊎_elim (λ (e : owner g (p / 32) ≡ Some (TopCell q)). by_old p q (at_wide k e)) (λ (e : Towards put.key q × (b : ℕ) × (b < 256) × (split_child w' (p / 32) b ≢ 0)). by_new q e.0) (old_or_new w' g own put news (p / 32) (TopCell q) o)
+  paths_lead p q (at_split k o) = ⊎_elim (λ (e : owner g (p / 32) ≡ Some (TopCell q)). by_old p q (at_split k e)) (λ (e : Towards put.key q × (b : ℕ) × (b < 256) × (split_child w' (p / 32) b ≢ 0)). by_new q e.0) (old_or_new w' g own put news (p / 32) (TopCell q) o)
   paths_lead p q (at_prefix k o) = ⊎_elim (λ (e : owner g (p / 32) ≡ Some (PrefixCell q)). by_old p q (at_prefix k e)) (λ (e : Towards put.key q). by_new q e) (old_or_new w' g own put news (p / 32) (PrefixCell q) o)
 
 -- the split nodes: pointers in top and mid cells stay, and pointers in leaf cells stay pointers

@@ -6,7 +6,7 @@ use Rattle.cell_layout.specs.Pointers.{record_cell}
 use Rattle.trie_image.specs.declared.Owner.{Owner}
 use Rattle.trie_image.specs.declared.Owner.TheVariants.{HeadCell, RecordCell, ChainCell, SparseCell, TopCell, PrefixCell}
 use Rattle.trie_image.specs.Image.{reading, root_of}
-use Rattle.trie_image.specs.Paths.{owner, HasPath, at_content, at_chain, at_sparse, at_wide, at_prefix}
+use Rattle.trie_image.specs.Paths.{owner, HasPath, at_content, at_chain, at_sparse, at_split, at_prefix}
 use Rattle.trie_image.specs.Cell.{IsCell}
 use Rattle.trie_image.specs.Puts.{MapsTo}
 use Rattle.trie_image.specs.WellFormed.{IsWellFormed, opening_ledger}
@@ -30,14 +30,14 @@ no_path : (p : ℕ) (q : List ℕ) → HasPath opening_ledger p q → ⊥
 no_path p q (at_content n e k o h s) = let x = head_alone (record_cell p) (RecordCell n 0) o in cc
 no_path p q (at_chain from t k o h s) = let x = head_alone (p / 32) (ChainCell from t) o in cc
 no_path p q (at_sparse k o) = let x = head_alone (p / 32) (SparseCell q) o in cc
-no_path p q (at_wide k o) = let x = head_alone (p / 32) (TopCell q) o in cc
+no_path p q (at_split k o) = let x = head_alone (p / 32) (TopCell q) o in cc
 no_path p q (at_prefix k o) = let x = head_alone (p / 32) (PrefixCell q) o in cc
 
 pub opening : (cells : ℕ) → 1 ≤ cells → cells ≤ 2 ^ 22 → IsWellFormed (replicate (4 * cells) 0) opening_ledger cells
 opening cells some_ small = record {
   image = record {
-    wide = length-replicate (4 * cells) 0;
-    room = some_;
+    size = length-replicate (4 * cells) 0;
+    capacity = some_;
     fewer = omega arith;
     small = small;
     head = refl;

@@ -1,18 +1,18 @@
 -- A put's new owners are as many as its new cells.
 use Rattle.std.proofs.Common.{◌≡◌, ℕ, suc, ◌+◌, ◌-◌, ◌*◌, ◌/◌, ◌%◌, ◌==◌, Bool, true, false, cond, List, [], ◌∷◌, ◌++◌, length, filter, refl, ap, arith, length-append}
 use Rattle.std.specs.List.{range_with_len}
+use Rattle.cell_layout.specs.Cells.{record_cells, record_words, chain_cell, chain_cells, chain_from, branch_words, prefix_words}
+use Rattle.cell_layout.proofs.WordsAt.{length_chain, length_record_words}
 use Rattle.trie_image.specs.declared.Owner.TheVariants.{ChainCell, TopCell, MidCell, LeafCell}
 use Rattle.trie_image.specs.declared.exit.Stand.{Stand}
 use Rattle.trie_image.specs.declared.exit.Meets.{Meets}
 use Rattle.trie_image.specs.declared.exit.Meets.TheVariants.{Content, Nothing, OtherByte, End, Sparse, Full, NoLeaf, NoMid, PastContent}
 use Rattle.trie_image.specs.declared.exit.Exit.{Exit}
 use Rattle.trie_image.specs.Image.{word_of, cell_byte}
-use Rattle.trie_image.specs.Cell.{record_cells}
-use Rattle.trie_image.specs.Body.{record_words, chain_cell, chain_cells, chain_from, passed_bytes, passed_words, chain_rest, split_words, prefix_words, seven, has_mid, has_leaf, mid_field, leaf_field, top_words, mid_words, leaf_words, further}
+use Rattle.trie_image.specs.Body.{passed_bytes, passed_words, chain_rest, seven, has_mid, has_leaf, mid_field, leaf_field, top_words, mid_words, leaf_words, further}
 use Rattle.trie_image.specs.Stores.{prepares, content_of, entry_of, first_further, body_words}
-use Rattle.trie_image.proofs.BodyLengths.{length_chain, length_eights, length_split}
-use Rattle.trie_image.proofs.NewCells.{length_record_words}
-use Rattle.trie_image.proofs.NewWide.{mid_owners, leaf_owners, wide_owners}
+use Rattle.trie_image.proofs.BodyLengths.{length_eights, length_branch}
+use Rattle.trie_image.proofs.NewSplitNode.{mid_owners, leaf_owners, split_node_owners}
 use Rattle.trie_image.proofs.NewOwners.{passed_owners, further_owners, first_owners, length_first_owners}
 use Rattle.trie_image.proofs.PutLedger.{length_sent}
 
@@ -23,9 +23,9 @@ length_passed w s path end = by (s.at == s.entered)
     by true = refl
     by false = refl
 
-length_wide : (w : List ℕ) (node b entry x : ℕ) (path bytes : List ℕ) → length (top_words bytes x ++ mid_words bytes x 4 ++ leaf_words w node b entry bytes 32) ≡ 4 * length (wide_owners bytes x path)
+length_split_node : (w : List ℕ) (node b entry x : ℕ) (path bytes : List ℕ) → length (top_words bytes x ++ mid_words bytes x 4 ++ leaf_words w node b entry bytes 32) ≡ 4 * length (split_node_owners bytes x path)
 unfolding mid_words leaf_words
-length_wide w node b entry x path bytes = let four : length (top_words bytes x) ≡ 4 = refl in
+length_split_node w node b entry x path bytes = let four : length (top_words bytes x) ≡ 4 = refl in
     omega (
       arith,
       four,
@@ -40,9 +40,9 @@ length_wide w node b entry x path bytes = let four : length (top_words bytes x) 
 
 length_further_owners : (w : List ℕ) (m : Meets) (s : Stand) (path : List ℕ) (b t x content entry : ℕ) → length (further w m s b x content entry) ≡ 4 * length (further_owners w m s path b t x)
 length_further_owners w OtherByte s path b t x content entry =
-    omega (arith, length-append (split_words (cell_byte w (s.at / 32) (s.at % 32)) (chain_rest w s.at) b entry) (passed_words w s (32 * x + 30)), length_split (cell_byte w (s.at / 32) (s.at % 32)) (chain_rest w s.at) b entry, length_passed w s path (32 * x + 30))
+    omega (arith, length-append (branch_words (cell_byte w (s.at / 32) (s.at % 32)) (chain_rest w s.at) b entry) (passed_words w s (32 * x + 30)), length_branch (cell_byte w (s.at / 32) (s.at % 32)) (chain_rest w s.at) b entry, length_passed w s path (32 * x + 30))
 length_further_owners w End s path b t x content entry = let four : length (prefix_words content s.at) ≡ 4 = refl in omega (arith, length-append (prefix_words content s.at) (passed_words w s (32 * x + 31)), length_passed w s path (32 * x + 31), four)
-length_further_owners w Full s path b t x content entry = length_wide w (s.at / 32) b entry x path (seven (word_of w (s.at / 32) 3) b)
+length_further_owners w Full s path b t x content entry = length_split_node w (s.at / 32) b entry x path (seven (word_of w (s.at / 32) 3) b)
 length_further_owners w NoLeaf s path b t x content entry = refl
 length_further_owners w NoMid s path b t x content entry = refl
 length_further_owners w PastContent s path b t x content entry = refl

@@ -6,6 +6,8 @@ use Rattle.cell_layout.specs.declared.Kind.{Kind}
 use Rattle.cell_layout.specs.declared.Kind.TheVariants as kind
 use Rattle.cell_layout.specs.Pointers.{kind_at}
 use Rattle.cell_layout.specs.Slots.{slot_at}
+use Rattle.cell_layout.specs.Words.{AreBytes}
+use Rattle.cell_layout.proofs.CellBytes.{byte_there}
 use Rattle.trie_image.specs.declared.Role.{Role}
 use Rattle.trie_image.specs.declared.Role.TheVariants.{Root, Chain, Order, Slot, Top, Mid, Leaf, Prefix, Head}
 use Rattle.trie_image.specs.declared.Place.{Place}
@@ -14,7 +16,7 @@ use Rattle.trie_image.specs.declared.Owner.TheVariants.{SparseCell, TopCell, Mid
 use Rattle.trie_image.specs.declared.Ledger.{Ledger}
 use Rattle.trie_image.specs.Reading.{sees, sees_from}
 use Rattle.trie_image.specs.Image.{word_of, field, slot_child, leaf_child, mid_child, split_child, child_of, reading, root_of}
-use Rattle.trie_image.specs.Paths.{owner, HasPath, at_wide}
+use Rattle.trie_image.specs.Paths.{owner, HasPath, at_split}
 use Rattle.trie_image.specs.Cell.{IsImage}
 use Rattle.trie_image.specs.WellFormed.{HasSplitNodes}
 use Rattle.trie_image.specs.Place.{IsPlaceAt, IsPlace, role_sees, place_sees}
@@ -37,10 +39,10 @@ module _ (w : List ℕ) (g : Ledger) (cells : ℕ) (ok : IsImage w g cells) (spl
   -- the pointer to a split node's top cell
   module _ (t part : ℕ) (q : List ℕ) (top : owner g t ≡ Some (TopCell q)) (small : part < 256) where
     top_kind : kind_at (32 * t + 28) ≡ Some kind.Wide
-    top_kind = let l = own_inside g.owners t (TopCell q) top in let ne = not_first g t (TopCell q) ok.head top (λ z. cc) in offset_kind (32 * t + 28) t 28 refl (omega arith) (omega (arith, l, ok.room, ok.small)) (omega arith)
+    top_kind = let l = own_inside g.owners t (TopCell q) top in let ne = not_first g t (TopCell q) ok.head top (λ z. cc) in offset_kind (32 * t + 28) t 28 refl (omega arith) (omega (arith, l, ok.capacity, ok.small)) (omega arith)
 
     top_path : HasPath g (32 * t + 28) q
-    top_path = let c : (32 * t + 28) / 32 ≡ t = omega arith in at_wide top_kind (subst (λ (x : ℕ). owner g x ≡ Some (TopCell q)) (sym c) top)
+    top_path = let c : (32 * t + 28) / 32 ≡ t = omega arith in at_split top_kind (subst (λ (x : ℕ). owner g x ≡ Some (TopCell q)) (sym c) top)
 
     top_child : (m x : ℕ) → field w t (part / 64) ≡ 32 * m + 28 → leaf_child w (field w m (part / 8 % 8)) part ≡ x → child_of w (32 * t + 28) part (kind_at (32 * t + 28)) ≡ x
     top_child m x mid is = let c : (32 * t + 28) / 32 ≡ t = omega arith in let n : (32 * m + 28) / 32 ≡ m = omega arith in let ne : 32 * m + 28 ≢ 0 = λ z. omega arith in
@@ -75,7 +77,7 @@ module _ (w w' : List ℕ) (g g' : Ledger) (cells : ℕ) (ok : IsImage w g cells
   abbrev PlaceLaw : List ℕ → ℕ → ℕ → ℕ → Role → Type 0
   PlaceLaw k p part taken role = IsPlaceAt w' g' k p part taken role × SameOrNew k (role_sees w k p part taken role) (role_sees w' k p part taken role)
 
-  place_law : (k : List ℕ) → ((i b : ℕ) → slice_get k i ≡ Some b → b < 256) → (p part taken : ℕ) (role : Role) → IsPlaceAt w g k p part taken role → PlaceLaw k p part taken role
+  place_law : (k : List ℕ) → AreBytes k → (p part taken : ℕ) (role : Role) → IsPlaceAt w g k p part taken role → PlaceLaw k p part taken role
   place_law k bytes p part taken Root h = (h, roots k)
   place_law k bytes p part taken Head (at, is, len) = let whole : take taken k ≡ k = take_all taken k (omega arith) in ((grows p k at, is, len), at_pointer k taken p (subst (λ (l : List ℕ). HasPath g p l) (sym whole) at))
   place_law k bytes p part taken Prefix (at, is, le) = ((grows p (take taken k) at, is, le), at_pointer k taken p at)
@@ -84,12 +86,12 @@ module _ (w w' : List ℕ) (g g' : Ledger) (cells : ℕ) (ok : IsImage w g cells
   place_law k bytes p part taken Top (at, is, next) = ((grows p (take taken k) at, is, next), at_pointer k taken p at)
   place_law k bytes p part taken Slot (b, at, is, next, slot) = let slot' = slots (p / 32) b part (take taken k) (sparse_of g p (take taken k) at is) slot in
       ((b, grows p (take taken k) at, is, next, slot'), through k (sees (reading w) p (drop taken k)) (sees (reading w') p (drop taken k)) _ _ (slot_sees w g cells ok split k taken p part b is next slot) (slot_sees w' g' cells ok' split' k taken p part b is next slot') (at_pointer k taken p at))
-  place_law k bytes p part taken Mid (t, own, top, next) = let small = bytes taken part next in (
+  place_law k bytes p part taken Mid (t, own, top, next) = let small = byte_there k taken part bytes next in (
     (t, keeps (p / 32) (MidCell t (part / 64)) own, keeps t (TopCell (take taken k)) top, next),
     through k (sees (reading w) (32 * t + 28) (drop taken k)) (sees (reading w') (32 * t + 28) (drop taken k)) _ _ (mid_sees w g cells ok split k taken t part (take taken k) top small (p / 32) own next)
         (mid_sees w' g' cells ok' split' k taken t part (take taken k) (keeps t (TopCell (take taken k)) top) small (p / 32) (keeps (p / 32) (MidCell t (part / 64)) own) next) (at_pointer k taken (32 * t + 28) (top_path w g cells ok split k taken t part (take taken k) top small)),
   )
-  place_law k bytes p part taken Leaf (t, own, top, next) = let small = bytes taken part next in let i : ℕ = part / 64 in let j : ℕ = part / 8 % 8 in (
+  place_law k bytes p part taken Leaf (t, own, top, next) = let small = byte_there k taken part bytes next in let i : ℕ = part / 64 in let j : ℕ = part / 8 % 8 in (
     (t, keeps (p / 32) (LeafCell t i j) own, keeps t (TopCell (take taken k)) top, next),
     through k (sees (reading w) (32 * t + 28) (drop taken k)) (sees (reading w') (32 * t + 28) (drop taken k)) _ _ (leaf_sees w g cells ok split k taken t part (take taken k) top small (p / 32) own next)
         (leaf_sees w' g' cells ok' split' k taken t part (take taken k) (keeps t (TopCell (take taken k)) top) small (p / 32) (keeps (p / 32) (LeafCell t i j) own) next) (at_pointer k taken (32 * t + 28) (top_path w g cells ok split k taken t part (take taken k) top small)),

@@ -28,12 +28,12 @@ cell_trans w v u c (LeafCell t i j) a b = λ k l. b k l ∙ a k l
 cell_trans w v u c (PrefixCell q) a b = λ i l. b i l ∙ a i l
 
 pub same_trans : (w v u : List ℕ) (g : Ledger) → IsSame w v g → IsSame v u g → IsSame w u g
-same_trans w v u g a b = record { wide = b.wide ∙ a.wide; cells = λ c o e. cell_trans w v u c o (a.cells c o e) (b.cells c o e) }
+same_trans w v u g a b = record { size = b.size ∙ a.size; cells = λ c o e. cell_trans w v u c o (a.cells c o e) (b.cells c o e) }
 
 -- where the words of all cells taken are as they were
 pub same_below : (w v : List ℕ) (g : Ledger) → length v ≡ length w → owner g 0 ≡ Some HeadCell → ((i : ℕ) → i < 4 * length g.owners → slice_index v i ≡ slice_index w i) → IsSame w v g
 same_below w v g long head below = record {
-  wide = long;
+  size = long;
   cells = λ c o e. let l : c < length g.owners = own_inside g.owners c o e in let first : 0 < length g.owners = own_inside g.owners 0 HeadCell head in
       same_cell w v c o (ap (λ (x : ℕ). half_of x false) (below 1 (omega arith))) (λ ne i s. below (4 * c + i) (omega arith));
 }

@@ -2,27 +2,29 @@
 -- words after the publishing store.
 use Rattle.std.proofs.Common.{◌≡◌, ◌≢◌, ℕ, suc, ◌+◌, ◌-◌, ◌*◌, ◌/◌, ◌%◌, ◌^◌, ◌<◌, ◌≤◌, ◌==◌, nat_lt, Bool, true, false, cond, List, [], ◌∷◌, length, slice_index, Option, Some, None, refl, sym, ap, ap₂, ◌∙◌, subst, ⊎_elim, arith, eq-eqb, ne_eqb, ltb-true}
 use Rattle.std.proofs.lemmas.Bool.{cases_eq, cases_Bool, ltb-false, cond-true, cond-false}
+use Rattle.std.proofs.Math.Nat.{mod-lt}
 use Rattle.cell_layout.specs.declared.Kind.{Kind}
 use Rattle.cell_layout.specs.declared.Kind.TheVariants as kind
 use Rattle.cell_layout.specs.Words.{half_of, byte_of}
 use Rattle.cell_layout.specs.Pointers.{kind_at}
 use Rattle.cell_layout.proofs.PointerKinds.{is_kind, is_chain, next_byte}
+use Rattle.cell_layout.specs.Cells.{chain_cell, branch_words, prefix_words}
+use Rattle.cell_layout.proofs.CellBytes.{byte_of_chain_cell, tail_of_chain_cell}
+use Rattle.cell_layout.specs.Slots.{slot_at}
+use Rattle.cell_layout.proofs.Added.{slot_is, slot_small}
 use Rattle.trie_image.specs.declared.exit.Stand.{Stand}
 use Rattle.trie_image.specs.Reading.{sees_from, Reads, Better}
 use Rattle.trie_image.specs.Image.{word_of, field, cell_byte, slot_child, mid_child, split_child, node_child, child_of, content_record, record_of, reading}
-use Rattle.trie_image.specs.Body.{chain_cell, passed_bytes, passed_words, over_passed, chain_rest, split_words, prefix_words, seven, has_leaf, leaf_field, wide_words}
+use Rattle.trie_image.specs.Body.{passed_bytes, passed_words, over_passed, chain_rest, seven, has_leaf, leaf_field, split_node_words}
 use Rattle.trie_image.specs.Stores.{content_of}
 use Rattle.trie_image.proofs.Betters.{reads_on, better_chain, cell_reads}
 use Rattle.trie_image.proofs.Nodes.{better_node, better_record}
-use Rattle.trie_image.proofs.CellWords.{Stands, byte_of_chain_cell, tail_of_chain_cell, bytes_passed, passed_byte}
+use Rattle.trie_image.proofs.CellWords.{Stands, bytes_passed, passed_byte}
 use Rattle.trie_image.proofs.NewPointers.{offset_kind, content_kind, content_there, content_is, content_record_is, content_leaf, prefix_content, prefix_node}
 use Rattle.trie_image.proofs.Exits.{IsNode, own_children, next_reads, rest_child}
 use Rattle.trie_image.specs.Same.{SameWords}
 use Rattle.trie_image.proofs.Kept.{same_field}
-use Rattle.trie_image.proofs.Wides.{has_new, has_old, split_there, split_absent}
-use Rattle.std.proofs.Math.Nat.{mod-lt}
-use Rattle.cell_layout.specs.Slots.{slot_at}
-use Rattle.cell_layout.proofs.Added.{slot_is, slot_small}
+use Rattle.trie_image.proofs.SplitNodes.{has_new, has_old, split_there, split_absent}
 use Rattle.trie_image.proofs.Splits.{sparse_kind, split_old, split_new, split_other}
 
 module _ (w : List ℕ) (used : ℕ) (small : used < 2 ^ 31) where
@@ -72,7 +74,7 @@ module _ (w : List ℕ) (used : ℕ) (small : used < 2 ^ 31) where
     chain_other : (a : ℕ) → a ≢ cell_byte w (at / 32) (at % 32) → child_of w at a (kind_at at) ≡ 0
     chain_other a ne = ap (λ (x : Option Kind). child_of w at a x) k ∙ cond-false (cell_byte w (at / 32) (at % 32) == a) (cond (at % 32 == 27) (field w (at / 32) 7) (at + 1)) 0 (ne_eqb (cell_byte w (at / 32) (at % 32)) a (λ z. ne (sym z)))
 
-    pub better_split : (x old b entry : ℕ) (rest : List ℕ) → Stands w x (split_words old (chain_rest w at) b entry) → old ≡ cell_byte w (at / 32) (at % 32) → 1 ≤ x → x < 2 ^ 26 → old < 256 → b < 256 → chain_rest w at < 2 ^ 32 → entry < 2 ^ 32 → old ≢ b → Reads (reading w) entry rest (content_of used) → Better (reading w) at (32 * x + 30) (b ∷ rest) used
+    pub better_split : (x old b entry : ℕ) (rest : List ℕ) → Stands w x (branch_words old (chain_rest w at) b entry) → old ≡ cell_byte w (at / 32) (at % 32) → 1 ≤ x → x < 2 ^ 26 → old < 256 → b < 256 → chain_rest w at < 2 ^ 32 → entry < 2 ^ 32 → old ≢ b → Reads (reading w) entry rest (content_of used) → Better (reading w) at (32 * x + 30) (b ∷ rest) used
     better_split x old b entry rest h is_old low high so sb fc fe ne reads = let p : ℕ = 32 * x + 30 in
         better_node (reading w) b rest at p used (is_kind at (Some kind.Chain) k).0 (λ z. omega arith)
         (ap (λ (x : Option Kind). record_of w p x) (sparse_kind w x p refl low high) ∙ sym chain_none)
@@ -122,7 +124,7 @@ module _ (w0 w : List ℕ) (s : Stand) (m : List ℕ) (forward : s.at ≡ s.ente
     passed_reads = ⊎_elim nothing_passed some_passed (cases_eq s.at s.entered)
 
 -- the split node of seven children in place of a full sparse node
-module _ (w0 w : List ℕ) (used : ℕ) (small : used < 2 ^ 31) (at b entry x : ℕ) (k : kind_at at ≡ Some kind.Sparse) (same : SameWords w0 w (at / 32)) (h : Stands w x (wide_words w0 (at / 32) b entry x)) (low : 1 ≤ x) (room : x + 64 < 2 ^ 26) (byte : b < 256) (fits : (c : ℕ) → leaf_field w0 (at / 32) b entry c < 2 ^ 32) where
+module _ (w0 w : List ℕ) (used : ℕ) (small : used < 2 ^ 31) (at b entry x : ℕ) (k : kind_at at ≡ Some kind.Sparse) (same : SameWords w0 w (at / 32)) (h : Stands w x (split_node_words w0 (at / 32) b entry x)) (low : 1 ≤ x) (capacity : x + 64 < 2 ^ 26) (byte : b < 256) (fits : (c : ℕ) → leaf_field w0 (at / 32) b entry c < 2 ^ 32) where
   word : ℕ
   word = word_of w0 (at / 32) 3
 
@@ -166,13 +168,13 @@ module _ (w0 w : List ℕ) (used : ℕ) (small : used < 2 ^ 31) (at b entry x : 
       (cases_Bool (nat_lt a 256)) ∙ sym (old_child a))
     where
       by : a < 256 → (t : Bool) → has_leaf (seven (word_of w0 (at / 32) 3) b) (a / 8) ≡ t → split_child w x a ≡ was a
-      by l true e = split_there w0 w (at / 32) b entry x (seven (word_of w0 (at / 32) 3) b) h room fits a l e ∙ other_field a ne
-      by l false e = split_absent w0 w (at / 32) b entry x (seven (word_of w0 (at / 32) 3) b) h room fits a l e ∙ sym (old_none a (λ s is. let t = has_old (word_of w0 (at / 32) 3) b a s is in let d : false ≡ true = sym e ∙ t in absurd (cc)))
+      by l true e = split_there w0 w (at / 32) b entry x (seven (word_of w0 (at / 32) 3) b) h capacity fits a l e ∙ other_field a ne
+      by l false e = split_absent w0 w (at / 32) b entry x (seven (word_of w0 (at / 32) 3) b) h capacity fits a l e ∙ sym (old_none a (λ s is. let t = has_old (word_of w0 (at / 32) 3) b a s is in let d : false ≡ true = sym e ∙ t in absurd (cc)))
 
-  pub better_wide : (rest : List ℕ) → slot_at (word_of w0 (at / 32) 3) b ≡ None → Reads (reading w) entry rest (content_of used) → Better (reading w) at (32 * x + 28) (b ∷ rest) used
+  pub better_split_node : (rest : List ℕ) → slot_at (word_of w0 (at / 32) 3) b ≡ None → Reads (reading w) entry rest (content_of used) → Better (reading w) at (32 * x + 28) (b ∷ rest) used
   unfolding was word
-  better_wide rest absent reads =
-      let is : child_of w (32 * x + 28) b (kind_at (32 * x + 28)) ≡ entry = new_child b ∙ (split_there w0 w (at / 32) b entry x (seven (word_of w0 (at / 32) 3) b) h room fits b byte (has_new (word_of w0 (at / 32) 3) b) ∙ new_field) in
+  better_split_node rest absent reads =
+      let is : child_of w (32 * x + 28) b (kind_at (32 * x + 28)) ≡ entry = new_child b ∙ (split_there w0 w (at / 32) b entry x (seven (word_of w0 (at / 32) 3) b) h capacity fits b byte (has_new (word_of w0 (at / 32) 3) b) ∙ new_field) in
       let none : child_of w at b (kind_at at) ≡ 0 = old_child b ∙ ap (λ (o : Option ℕ). slot_child w0 (at / 32) o) absent in
       better_node (reading w) b rest at (32 * x + 28) used (is_kind at (Some kind.Sparse) k).0 (λ z. omega arith)
       (ap (λ (y : Option Kind). record_of w (32 * x + 28) y) (offset_kind (32 * x + 28) x 28 refl low (omega arith) (omega arith)) ∙ sym (ap (λ (y : Option Kind). record_of w at y) k))

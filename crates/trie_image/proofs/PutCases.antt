@@ -7,6 +7,8 @@ use Rattle.cell_layout.specs.Pointers.{kind_at_offset, kind_at}
 use Rattle.cell_layout.specs.Slots.{slot_at, child_count, word_with, AddsChild}
 use Rattle.cell_layout.proofs.PointerKinds.{is_kind, is_chain}
 use Rattle.cell_layout.proofs.Added.{adds_child}
+use Rattle.cell_layout.specs.Cells.{lone_words}
+use Rattle.cell_layout.specs.Words.{AreBytes}
 use Rattle.trie_image.specs.declared.Owner.{Owner}
 use Rattle.trie_image.specs.declared.Owner.TheVariants.{SparseCell, TopCell, MidCell, LeafCell, PrefixCell}
 use Rattle.trie_image.specs.declared.Ledger.{Ledger}
@@ -18,16 +20,16 @@ use Rattle.trie_image.specs.Paths.{owner, HasPath}
 use Rattle.trie_image.specs.Cell.{IsSparseCell, IsPrefixCell, IsImage}
 use Rattle.trie_image.specs.Same.{IsSame}
 use Rattle.trie_image.specs.Exit.{exit_with}
-use Rattle.trie_image.specs.Body.{over_passed, lone_words}
+use Rattle.trie_image.specs.Body.{over_passed}
 use Rattle.trie_image.specs.Stores.{content_of, entry_of, first_further, body_words, cost}
 use Rattle.trie_image.proofs.Owners.{sparse_of}
 use Rattle.trie_image.proofs.Kept.{same_field}
 use Rattle.trie_image.proofs.Exits.{IsNode, path_nonzero, node_nonzero}
 use Rattle.trie_image.proofs.Leaves.{StandsAt, MetContent, MetNothing, MetOtherByte, MetEnd, MetSparse, MetFull, MetNoLeaf, MetNoMid, MetPastContent}
 use Rattle.trie_image.proofs.NewPointers.{content_kind, content_cell}
-use Rattle.trie_image.proofs.CellWords.{Stands, stands_front, stands_back, AreBytes, lone_field, lone_other}
+use Rattle.trie_image.proofs.CellWords.{Stands, stands_front, stands_back, lone_field, lone_other}
 use Rattle.trie_image.proofs.NewChains.{owner_second}
-use Rattle.trie_image.proofs.NewWide.{kind_by_offset, path_small}
+use Rattle.trie_image.proofs.NewSplitNode.{kind_by_offset, path_small}
 use Rattle.trie_image.proofs.NewOwners.{further_owners}
 use Rattle.trie_image.proofs.NewCases.{other_byte, key_end, full_node, no_leaf, no_mid, past_content}
 use Rattle.trie_image.proofs.Cases.{further_stands}
@@ -62,7 +64,7 @@ content_above p k = is_kind p (Some kind.Content) k
 offset_is : (x off : ℕ) → 1 ≤ x → x + 64 < 2 ^ 26 → off < 32 → kind_at (32 * x + off) ≡ kind_at_offset off
 offset_is x off low high l = let o : (32 * x + off) % 32 ≡ off = omega arith in kind_by_offset (32 * x + off) (λ z. omega arith) (omega arith) ∙ ap (λ (y : ℕ). kind_at_offset y) o
 
-module _ (w w1 : List ℕ) (g : Ledger) (cells used : ℕ) (key value : List ℕ) (ok : IsImage w g cells) (same : IsSame w w1 g) (taken_is : length g.owners ≡ used) (counted : length g.puts ≡ slice_index w 0) (room : used + cost (length key) (length value) ≤ cells) (bytes : AreBytes key) (s : Stand) (taken : ℕ) where
+module _ (w w1 : List ℕ) (g : Ledger) (cells used : ℕ) (key value : List ℕ) (ok : IsImage w g cells) (same : IsSame w w1 g) (taken_is : length g.owners ≡ used) (counted : length g.puts ≡ slice_index w 0) (capacity : used + cost (length key) (length value) ≤ cells) (bytes : AreBytes key) (s : Stand) (taken : ℕ) where
   -- what a prefix cell in which the walk stands holds
   held_content : (q m path : List ℕ) → StandsAt w g q m path s → owner g s.cell ≡ Some (PrefixCell q) → s.field ≡ 0 → (kind_at s.entered ≡ Some kind.Content) × (s.entered ≢ 0)
   held_content q m path h own z = let cell : IsPrefixCell w g s.cell q = ok.each s.cell (PrefixCell q) own in let e : field w s.cell 0 ≡ s.entered = ap (λ (x : ℕ). field w s.cell x) (sym z) ∙ h.held in
@@ -77,7 +79,7 @@ module _ (w w1 : List ℕ) (g : Ledger) (cells used : ℕ) (key value : List ℕ
   -- the preparation in a case
   ready : (meets : Meets) (start rest path : List ℕ) (b t : ℕ) → start ++ rest ≡ key → Stands w1 used (body_words w used (slice_index w 0 + 1) value rest (exit_with meets s taken) b)
       → IsPrepared w1 g cells used key value start rest (further_owners w meets s path b t (first_further used value rest))
-  ready meets start rest path b t whole h = prepared w w1 g cells used key value ok same taken_is counted start rest (further_owners w meets s path b t (first_further used value rest)) (few_further w meets s path b t (first_further used value rest)) room (short start rest whole) whole
+  ready meets start rest path b t whole h = prepared w w1 g cells used key value ok same taken_is counted start rest (further_owners w meets s path b t (first_further used value rest)) (few_further w meets s path b t (first_further used value rest)) capacity (short start rest whole) whole
       (bytes_after start rest key whole bytes) (exit_with meets s taken) b h
 
   -- the publishing store in the walk's field
@@ -186,7 +188,7 @@ module _ (w w1 : List ℕ) (g : Ledger) (cells used : ℕ) (key value : List ℕ
       let d = ready Sparse (m.path ++ m.byte ∷ []) m.rest m.path m.byte t whole h in let r = m.reached in
       let own : owner g s.cell ≡ Some (SparseCell m.path) = subst (λ (c : ℕ). owner g c ≡ Some (SparseCell m.path)) m.here (sparse_of g s.at m.path r.node m.is_sparse) in
       let cell : IsSparseCell w g s.cell m.path = ok.each s.cell (SparseCell m.path) own in let kept = same.cells s.cell (SparseCell m.path) own in
-      let adds : AddsChild (word_of w s.cell 3) (word_with (word_of w s.cell 3) m.byte) m.byte = adds_child (word_of w s.cell 3) m.byte (sparse_fits (word_of w s.cell 3) cell.sparse) small m.room cell.sparse m.absent in
+      let adds : AddsChild (word_of w s.cell 3) (word_with (word_of w s.cell 3) m.byte) m.byte = adds_child (word_of w s.cell 3) m.byte (sparse_fits (word_of w s.cell 3) cell.sparse) small m.capacity cell.sparse m.absent in
       add_publishes w1 (ledger_after g used key value (m.path ++ m.byte ∷ []) m.rest []) cells (d.image (λ j o e. absurd (cc))) key used (entry_of used value m.rest) (m.path ++ m.byte ∷ []) d.at_entry s.cell m.byte (word_with (word_of w s.cell 3) m.byte) m.path (d.keeps s.cell (SparseCell m.path) own)
-      (subst (λ (x : ℕ). AddsChild x (word_with (word_of w s.cell 3) m.byte) m.byte) (sym kept.0) adds) (subst (λ (x : ℕ). child_count x < 6) (sym kept.0) m.room) (subst (λ (x : ℕ). slot_at x m.byte ≡ None) (sym kept.0) m.absent)
+      (subst (λ (x : ℕ). AddsChild x (word_with (word_of w s.cell 3) m.byte) m.byte) (sym kept.0) adds) (subst (λ (x : ℕ). child_count x < 6) (sym kept.0) m.capacity) (subst (λ (x : ℕ). slot_at x m.byte ≡ None) (sym kept.0) m.absent)
       (subst (λ (x : ℕ). field w1 s.cell (child_count x) ≡ entry_of used value m.rest) (sym kept.0) slot) refl

@@ -14,7 +14,7 @@ use Rattle.trie_image.specs.Same.{IsSame}
 use Rattle.trie_image.proofs.Kept.{same_field}
 use Rattle.trie_image.proofs.Exits.{IsNode, path_nonzero}
 use Rattle.trie_image.proofs.Homes.{Home, root, tail, slot, leaf, content, node}
-use Rattle.trie_image.proofs.NewWide.{path_small}
+use Rattle.trie_image.proofs.NewSplitNode.{path_small}
 use Rattle.trie_image.proofs.HomeStores.{stored_field}
 use Rattle.trie_image.proofs.HomeChanges.{Publishes}
 use Rattle.trie_image.proofs.HomePublishes.{root_publishes, tail_publishes, slot_publishes, leaf_publishes, content_publishes, node_publishes}

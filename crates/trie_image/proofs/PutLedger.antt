@@ -4,6 +4,8 @@ use Rattle.std.proofs.lemmas.Bool.{cond_both}
 use Rattle.std.specs.List.{range_with_len}
 use Rattle.cell_layout.specs.declared.Kind.TheVariants as kind
 use Rattle.cell_layout.specs.Pointers.{kind_at}
+use Rattle.cell_layout.specs.Cells.{record_cells, record_words, chain_cells, chain_from}
+use Rattle.cell_layout.specs.Words.{AreBytes}
 use Rattle.trie_image.specs.declared.Owner.{Owner}
 use Rattle.trie_image.specs.declared.Owner.TheVariants.{HeadCell, ChainCell, TopCell, MidCell, LeafCell}
 use Rattle.trie_image.specs.declared.Ledger.{Ledger}
@@ -13,18 +15,18 @@ use Rattle.trie_image.specs.declared.exit.Meets.TheVariants.{Content, Nothing, O
 use Rattle.trie_image.specs.declared.exit.Exit.{Exit}
 use Rattle.trie_image.specs.Image.{word_of}
 use Rattle.trie_image.specs.Paths.{owner, HasPath}
-use Rattle.trie_image.specs.Cell.{record_cells, IsCell, IsImage}
+use Rattle.trie_image.specs.Cell.{IsCell, IsImage}
 use Rattle.trie_image.specs.Same.{IsSame}
-use Rattle.trie_image.specs.Body.{record_words, chain_cells, chain_from, further, seven, has_mid, has_leaf}
+use Rattle.trie_image.specs.Body.{further, seven, has_mid, has_leaf}
 use Rattle.trie_image.specs.Stores.{content_of, entry_of, first_further, body_words, cost}
 use Rattle.trie_image.proofs.Owners.{grown, path_grown}
 use Rattle.trie_image.proofs.Grown.{owner_grown, image_grown}
 use Rattle.trie_image.proofs.Kept.{keeps as keeps_image, own_inside}
 use Rattle.trie_image.proofs.Costs.{few_hits}
 use Rattle.trie_image.proofs.BodyLengths.{length_seven}
-use Rattle.trie_image.proofs.CellWords.{Stands, stands_front, AreBytes}
+use Rattle.trie_image.proofs.CellWords.{Stands, stands_front}
 use Rattle.trie_image.proofs.NewChains.{Owns, AreCells, get_back, cells_joined}
-use Rattle.trie_image.proofs.NewWide.{mid_owners, leaf_owners, wide_owners}
+use Rattle.trie_image.proofs.NewSplitNode.{mid_owners, leaf_owners, split_node_owners}
 use Rattle.trie_image.proofs.NewOwners.{passed_owners, further_owners, first_owners, length_first_owners, own_further, content_path, entry_path, entry_chain, first_cells_are}
 
 -- the ledger after a put: the owners of its record, of the chain of the rest and of the further cells are added, and the put
@@ -42,10 +44,10 @@ pub few_further : (w : List ℕ) (m : Meets) (s : Stand) (path : List ℕ) (b t 
 few_further w OtherByte s path b t x = omega (arith, few_passed s path)
 few_further w End s path b t x = omega (arith, few_passed s path)
 few_further w Full s path b t x = let bytes : List ℕ = seven (word_of w (s.at / 32) 3) b in
-    omega (arith, length_append_wide bytes, few_hits (λ b. b / 64) (seven (word_of w (s.at / 32) 3) b) 0 4, few_hits (λ b. b / 8) (seven (word_of w (s.at / 32) 3) b) 0 32, length_seven (word_of w (s.at / 32) 3) b)
+    omega (arith, length_append_split_node bytes, few_hits (λ b. b / 64) (seven (word_of w (s.at / 32) 3) b) 0 4, few_hits (λ b. b / 8) (seven (word_of w (s.at / 32) 3) b) 0 32, length_seven (word_of w (s.at / 32) 3) b)
   where
-    length_append_wide : (bytes : List ℕ) → length (wide_owners bytes x path) ≡ 1 + length (filter (has_mid bytes) (range_with_len 0 4)) + length (filter (has_leaf bytes) (range_with_len 0 32))
-    length_append_wide bytes = omega (
+    length_append_split_node : (bytes : List ℕ) → length (split_node_owners bytes x path) ≡ 1 + length (filter (has_mid bytes) (range_with_len 0 4)) + length (filter (has_leaf bytes) (range_with_len 0 32))
+    length_append_split_node bytes = omega (
       arith,
       length-append (TopCell path ∷ mid_owners bytes x) (leaf_owners bytes x),
       length_sent (λ i. MidCell x i) (filter (has_mid bytes) (range_with_len 0 4)),
@@ -78,7 +80,7 @@ pub record IsPrepared (w1 : List ℕ) (g : Ledger) (cells used : ℕ) (key value
   pub image : AreCells w1 (ledger_after g used key value start rest more) (first_further used value rest) more → IsImage w1 (ledger_after g used key value start rest more) cells
 
 module _ (w w1 : List ℕ) (g : Ledger) (cells used : ℕ) (key value : List ℕ) (ok : IsImage w g cells) (same : IsSame w w1 g) (taken : length g.owners ≡ used) (counted : length g.puts ≡ slice_index w 0) (start rest : List ℕ) (more : List Owner)
-    (few : length more ≤ 15) (room : used + cost (length key) (length value) ≤ cells) (short : length rest ≤ length key) (whole : start ++ rest ≡ key) (bytes : AreBytes rest) where
+    (few : length more ≤ 15) (capacity : used + cost (length key) (length value) ≤ cells) (short : length rest ≤ length key) (whole : start ++ rest ≡ key) (bytes : AreBytes rest) where
   low : 1 ≤ used
   low = let l = own_inside g.owners 0 HeadCell ok.head in omega arith
 

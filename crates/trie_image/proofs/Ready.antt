@@ -1,7 +1,8 @@
 -- The words after the stores into a put's new cells, and after the publishing store of one field.
-use Rattle.std.proofs.Common.{◌≡◌, ℕ, ◌+◌, ◌*◌, ◌/◌, ◌%◌, ◌^◌, ◌<◌, ◌≤◌, ◌==◌, List, [], ◌∷◌, ◌++◌, length, map, slice_get, slice_index, Some, refl, ap, ◌∙◌, arith, zero, suc}
+use Rattle.std.proofs.Common.{◌≡◌, ℕ, ◌+◌, ◌*◌, ◌/◌, ◌%◌, ◌^◌, ◌<◌, ◌≤◌, ◌==◌, List, [], ◌∷◌, ◌++◌, length, map, slice_get, slice_index, Some, ap, ◌∙◌, arith, zero, suc}
 use Rattle.std.specs.List.{range_with_len}
 use Rattle.cell_layout.specs.Words.{with_half_of}
+use Rattle.cell_layout.specs.Cells.{record_cells, chain_cells}
 use Rattle.trie_image.specs.declared.Owner.{Owner}
 use Rattle.trie_image.specs.declared.Owner.TheVariants.{HeadCell, RecordCell}
 use Rattle.trie_image.specs.declared.Put.{Put}
@@ -9,15 +10,14 @@ use Rattle.trie_image.specs.declared.Ledger.{Ledger}
 use Rattle.trie_image.specs.declared.exit.Exit.{Exit}
 use Rattle.trie_image.specs.Image.{word_of}
 use Rattle.trie_image.specs.Paths.{owner}
-use Rattle.trie_image.specs.Cell.{record_cells, IsImage}
+use Rattle.trie_image.specs.Cell.{IsImage}
 use Rattle.trie_image.specs.Same.{IsSame}
-use Rattle.trie_image.specs.Body.{chain_cells}
 use Rattle.trie_image.specs.Stores.{prepares, first_further, body_words, cost}
 use Rattle.trie_image.specs.After.{after}
 use Rattle.trie_image.proofs.Owners.{get_front, grown}
 use Rattle.trie_image.proofs.Kept.{own_inside}
 use Rattle.trie_image.proofs.BodyLengths.{length_body}
-use Rattle.trie_image.proofs.CellWords.{Stands, AreBytes}
+use Rattle.trie_image.proofs.CellWords.{Stands}
 use Rattle.trie_image.proofs.NewChains.{chain_owners, get_back}
 use Rattle.trie_image.proofs.NewOwners.{first_owners}
 use Rattle.trie_image.proofs.NewCells.{record_owners}
@@ -27,13 +27,7 @@ use Rattle.trie_image.proofs.Stored.{length-prepared, before_prepared, cells_sta
 use Rattle.trie_image.proofs.Prepared.{same_prepared}
 use Rattle.trie_image.proofs.Left.{SameBelow, turned_by, still_stand}
 
--- bytes by index, where each element is one
-pub bytes_by_index : (k : List ℕ) → ((i b : ℕ) → slice_get k i ≡ Some b → b < 256) → AreBytes k
-bytes_by_index [] h i = omega arith
-bytes_by_index (x ∷ k) h zero = h 0 x refl
-bytes_by_index (x ∷ k) h (suc i) = bytes_by_index k (λ j b e. h (suc j) b e) i
-
-module _ (w : List ℕ) (g : Ledger) (cells : ℕ) (key value : List ℕ) (ok : IsImage w g cells) (room : length g.owners + cost (length key) (length value) ≤ cells) (e : Exit) (rest : List ℕ) (b : ℕ) (short : length rest ≤ length key) where
+module _ (w : List ℕ) (g : Ledger) (cells : ℕ) (key value : List ℕ) (ok : IsImage w g cells) (capacity : length g.owners + cost (length key) (length value) ≤ cells) (e : Exit) (rest : List ℕ) (b : ℕ) (short : length rest ≤ length key) where
   abbrev pub body : List ℕ
   body = body_words w (length g.owners) (slice_index w 0 + 1) value rest e b
 
@@ -51,7 +45,7 @@ module _ (w : List ℕ) (g : Ledger) (cells : ℕ) (key value : List ℕ) (ok : 
   further_near = omega (arith, ok.small)
 
   fits_in : 4 * length g.owners + length body ≤ length w
-  fits_in = omega (arith, length_body w (length g.owners) (slice_index w 0 + 1) value rest e b, ok.wide)
+  fits_in = omega (arith, length_body w (length g.owners) (slice_index w 0 + 1) value rest e b, ok.size)
 
   pub below : SameBelow w ready (length g.owners)
   below i l = before_prepared w (4 * length g.owners) i body l

@@ -1,4 +1,4 @@
--- One pointer in place of another: which children change, and what follows for keys.
+-- One pointer in place of another: which children change.
 use Rattle.std.proofs.Common.{◌≡◌, ◌≢◌, ◌⊎◌, ℕ, ◌+◌, ◌/◌, ◌%◌, ◌^◌, ◌<◌, ◌≤◌, ◌==◌, nat_lt, Bool, true, false, cond, List, [], ◌∷◌, ◌++◌, Option, Some, None, refl, sym, ap, ◌∙◌, subst, inl, inr, ⊎_elim, arith, append_assoc, ltb-true}
 use Rattle.std.proofs.lemmas.Bool.{cases_eq, cond-true, cond-false, eq-eqb, cases_Bool}
 use Rattle.cell_layout.specs.declared.Kind.{Kind}
@@ -16,8 +16,8 @@ use Rattle.trie_image.specs.Image.{word_of, field, cell_byte, chain_child, slot_
 use Rattle.trie_image.specs.Paths.{owner, HasPath}
 use Rattle.trie_image.specs.Cell.{IsTopCell, IsPrefixCell, IsCell, IsImage}
 use Rattle.trie_image.specs.Same.{SameWords}
-use Rattle.trie_image.specs.Relink.{Relinks}
-use Rattle.trie_image.proofs.Owners.{chain_of, sparse_of, wide_of, prefix_of, path_once}
+use Rattle.trie_image.proofs.Relinks.{Relinks}
+use Rattle.trie_image.proofs.Owners.{chain_of, sparse_of, split_node_of, prefix_of, path_once}
 use Rattle.trie_image.proofs.Readings.{publish}
 use Rattle.trie_image.proofs.Children.{closed}
 use Rattle.trie_image.proofs.Betters.{edge}
@@ -55,8 +55,8 @@ module _ (w w' : List ℕ) (g : Ledger) (each : (c : ℕ) (o : Owner) → owner 
       turns_if (m == 0) 0 0 (leaf_child w l b) (leaf_child w' (field w' (m / 32) (b / 8 % 8)) b) (inl refl)
       (subst (λ (x : ℕ). Turns (leaf_child w l b) (leaf_child w' x b)) (sym e) (turns_if (l == 0) 0 0 (field w (l / 32) (b % 8)) (field w' (l / 32) (b % 8)) (inl refl) (link.fields (l / 32) (b % 8) (omega arith))))) (cases_eq m 0)
 
-  wide_turns : (c b : ℕ) (q : List ℕ) → owner g c ≡ Some (TopCell q) → Turns (split_child w c b) (split_child w' c b)
-  wide_turns c b q o = ⊎_elim
+  split_node_turns : (c b : ℕ) (q : List ℕ) → owner g c ≡ Some (TopCell q) → Turns (split_child w c b) (split_child w' c b)
+  split_node_turns c b q o = ⊎_elim
       (λ (t : nat_lt b 256 ≡ true). let small : b < 256 = ltb-true b 256 t in let ok : IsTopCell w g c q = each c (TopCell q) o in let e : field w' c (b / 64) ≡ field w c (b / 64) = same_field c (b / 64) (link.tops c q o) (omega arith) in
       turns_if (nat_lt b 256) (mid_child w (field w c (b / 64)) b) (mid_child w' (field w' c (b / 64)) b) 0 0 (subst (λ (x : ℕ). Turns (mid_child w (field w c (b / 64)) b) (mid_child w' x b)) (sym e) (mid_turns (field w c (b / 64)) c (b / 64) b (λ ne. ok.mids (b / 64) (omega arith) ne))) (inl refl))
       (λ (f : nat_lt b 256 ≡ false). inl (cond-false (nat_lt b 256) (mid_child w' (field w' c (b / 64)) b) 0 f ∙ sym (cond-false (nat_lt b 256) (mid_child w (field w c (b / 64)) b) 0 f))) (cases_Bool (nat_lt b 256))
@@ -64,7 +64,7 @@ module _ (w w' : List ℕ) (g : Ledger) (each : (c : ℕ) (o : Owner) → owner 
   node_turns : (a : ℕ) (q : List ℕ) (b : ℕ) (k : Option Kind) → kind_at a ≡ k → HasPath g a q → Turns (node_child w a b k) (node_child w' a b k)
   node_turns a q b (Some kind.Chain) e at = chain_turns a q b e at
   node_turns a q b (Some kind.Sparse) e at = sparse_turns (a / 32) b q (sparse_of g a q at e)
-  node_turns a q b (Some kind.Wide) e at = wide_turns (a / 32) b q (wide_of g a q at e)
+  node_turns a q b (Some kind.Wide) e at = split_node_turns (a / 32) b q (split_node_of g a q at e)
   node_turns a q b _ e at = inl refl
 
   pub child_turns : (a : ℕ) (q : List ℕ) (b : ℕ) (k : Option Kind) → kind_at a ≡ k → HasPath g a q → Turns (child_of w a b k) (child_of w' a b k)
@@ -74,23 +74,3 @@ module _ (w w' : List ℕ) (g : Ledger) (each : (c : ℕ) (o : Owner) → owner 
   child_turns a q b (Some kind.Sparse) e at = node_turns a q b (Some kind.Sparse) e at
   child_turns a q b (Some kind.Wide) e at = node_turns a q b (Some kind.Wide) e at
   child_turns a q b _ e at = inl refl
-
-  pub record_stays : (a : ℕ) (q : List ℕ) (k : Option Kind) → kind_at a ≡ k → HasPath g a q → record_of w' a k ≡ record_of w a k
-  record_stays a q (Some kind.Prefix) e at = ap (λ (x : ℕ). content_record x (kind_at x)) (same_field (a / 32) 0 (link.prefixes (a / 32) q (prefix_of g a q at e)) (omega arith))
-  record_stays a q _ e at = refl
-
-  module _ (new : ℕ) (h rest key : List ℕ) (ne : p ≢ 0) (at_h : HasPath g p h) (is_key : h ++ rest ≡ key) (better : Better (reading w') p p' rest new) where
-    edges : (a b : ℕ) (q k : List ℕ) → HasPath g a q → (sees (reading w') a (b ∷ k) ≡ sees_from (reading w') (child_of w a b (kind_at a)) k) ⊎ ((q ++ b ∷ k ≡ key) × (sees (reading w') a (b ∷ k) ≡ Some new))
-    edges a b q k at = edge (reading w) (reading w') key new a b q k (⊎_elim (λ e. inl e)
-        (λ (t : (child_of w a b (kind_at a) ≡ p) × (child_of w' a b (kind_at a) ≡ p')).
-        let there : HasPath g (child_of w a b (kind_at a)) (q ++ b ∷ []) = closed w g each a q b at (λ z. ne (sym t.0 ∙ z)) in
-        let whole : q ++ b ∷ [] ≡ h = path_once g p (q ++ b ∷ []) h (subst (λ (x : ℕ). HasPath g x (q ++ b ∷ [])) t.0 there) at_h in
-        inr (rest, sym (append_assoc q (b ∷ []) rest) ∙ (ap (λ (x : List ℕ). x ++ rest) whole ∙ is_key), subst (λ (x : ℕ). Better (reading w') x (child_of w' a b (kind_at a)) rest new) (sym t.0) (subst (λ (x : ℕ). Better (reading w') p x rest new) (sym t.1) better)))
-        (child_turns a q b (kind_at a) refl at))
-
-    pub relinked : (k : List ℕ) (a : ℕ) (q : List ℕ) → HasPath g a q → (sees (reading w') a k ≡ sees (reading w) a k) ⊎ ((q ++ k ≡ key) × (sees (reading w') a k ≡ Some new))
-    relinked k a q at = publish (reading w) (reading w') (HasPath g) (closed w g each) key new (λ a q at. inl (record_stays a q (kind_at a) refl at)) (λ a b q k at. edges a b q k at) k a q at
-
-pub relinks : (w w' : List ℕ) (g : Ledger) (cells p p' new : ℕ) (h rest key : List ℕ) → IsImage w g cells → Relinks w w' g p p' → p ≢ 0 → HasPath g p h → h ++ rest ≡ key → Better (reading w') p p' rest new
-    → (k : List ℕ) (a : ℕ) (q : List ℕ) → HasPath g a q → (sees (reading w') a k ≡ sees (reading w) a k) ⊎ ((q ++ k ≡ key) × (sees (reading w') a k ≡ Some new))
-relinks w w' g cells p p' new h rest key ok link ne at is better k a q there = relinked w w' g ok.each p p' link new h rest key ne at is better k a q there

@@ -7,9 +7,10 @@ use Rattle.cell_layout.specs.declared.Kind.TheVariants as kind
 use Rattle.cell_layout.specs.Words.{half_of, byte_of}
 use Rattle.cell_layout.specs.Pointers.{kind_at}
 use Rattle.cell_layout.specs.Slots.{digits, slots_of, slot_bytes, slot_at, child_count, child_bytes}
+use Rattle.cell_layout.specs.Cells.{two_words, branch_words}
+use Rattle.cell_layout.proofs.CellBytes.{pair_low, pair_high}
 use Rattle.trie_image.specs.Image.{word_of, slot_child, child_of}
-use Rattle.trie_image.specs.Body.{two_words, split_words}
-use Rattle.trie_image.proofs.CellWords.{Stands, pair_low, pair_high}
+use Rattle.trie_image.proofs.CellWords.{Stands}
 use Rattle.trie_image.proofs.NewPointers.{offset_kind}
 
 -- what the word of two bytes finds
@@ -64,7 +65,7 @@ module _ (w : List ℕ) (x p : ℕ) (is : p ≡ 32 * x + 30) (low : 1 ≤ x) (hi
     two_other : (a : ℕ) → lesser ≢ a → greater ≢ a → child_of w p a (kind_at p) ≡ 0
     two_other a nl ng = found a None (slots a ∙ (cond-false (lesser == a) (Some 0) (cond (greater == a) (Some 1) None) (ne_eqb lesser a nl) ∙ cond-false (greater == a) (Some 1) None (ne_eqb greater a ng)))
 
-  module _ (old child new entry : ℕ) (h : Stands w x (split_words old child new entry)) (so : old < 256) (sn : new < 256) (fc : child < 2 ^ 32) (fe : entry < 2 ^ 32) (ne : old ≢ new) where
+  module _ (old child new entry : ℕ) (h : Stands w x (branch_words old child new entry)) (so : old < 256) (sn : new < 256) (fc : child < 2 ^ 32) (fe : entry < 2 ^ 32) (ne : old ≢ new) where
     by_order : (P : Type 0) → (Stands w x (two_words old child new entry) → P) → (Stands w x (two_words new entry old child) → P) → P
     by_order P f g = cond_both (nat_le old new) (two_words old child new entry) (two_words new entry old child) (λ (l : List ℕ). Stands w x l → P) (λ e. f) (λ e. g) h
 

@@ -41,12 +41,3 @@ by_case w front PastContent s b entry p f h = one front _ f h refl
 
 pub shape : (w : List ℕ) (used : ℕ) (key value : List ℕ) → HasShape (stores_of w used key value) (store_at 0 (slice_index w 0 + 1) Finish)
 shape w used key value = by_case w (prepares (4 * used) (body_words w used (slice_index w 0 + 1) value (rest_of key (exit_of w key).meets (exit_of w key).taken) (exit_of w key) (slice_index key (exit_of w key).taken))) (exit_of w key).meets (exit_of w key).stand (slice_index key (exit_of w key).taken) _ _ (store_at 0 (slice_index w 0 + 1) Finish) (prepares_are (4 * used) _)
-
--- the words of Prepare stores begin where they begin
-at_least : (at : ℕ) (ws : List ℕ) (n : ℕ) (s : WordStore) → slice_get (prepares at ws) n ≡ Some s → at ≤ s.word
-at_least at [] n s e = absurd (cc)
-at_least at (x ∷ xs) zero s e = let is : store_at at x Prepare ≡ s = cc in let word : at ≡ s.word = ap (λ (y : WordStore). y.word) is in omega arith
-at_least at (x ∷ xs) (suc n) s e = let h = at_least (at + 1) xs n s e in omega arith
-
-pub prepared : (w : List ℕ) (g : Ledger) (cells at n : ℕ) (ws : List ℕ) (s : WordStore) → IsImage w g cells → 4 * length g.owners ≤ at → slice_get (prepares at ws) n ≡ Some s → IsSame w (slice_set w s.word s.value) g
-prepared w g cells at n ws s ok beyond e = let h = at_least at ws n s e in fresh w g cells s.word s.value ok (inl (omega arith))

@@ -24,10 +24,10 @@ before_prepared w at i (x ∷ xs) l = before_prepared (set w at x) (at + 1) i xs
 
 -- and they stand
 pub prepared : (w : List ℕ) (at i : ℕ) (ws : List ℕ) → i < length ws → at + length ws ≤ length w → slice_index (after w (prepares at ws)) (at + i) ≡ slice_index ws i
-prepared w at i [] l room = absurd (omega arith)
-prepared w at zero (x ∷ xs) l room = let z : at + 0 ≡ at = omega arith in ap (λ (k : ℕ). slice_index (after w (prepares at (x ∷ xs))) k) z ∙ (before_prepared (set w at x) (at + 1) at xs (omega arith) ∙ get_or-set_same w at x 0 (omega arith))
-prepared w at (suc i) (x ∷ xs) l room = let z : at + suc i ≡ at + 1 + i = omega arith in ap (λ (k : ℕ). slice_index (after w (prepares at (x ∷ xs))) k) z ∙ prepared (set w at x) (at + 1) i xs (omega arith) (omega (arith, length-set w at x))
+prepared w at i [] l capacity = absurd (omega arith)
+prepared w at zero (x ∷ xs) l capacity = let z : at + 0 ≡ at = omega arith in ap (λ (k : ℕ). slice_index (after w (prepares at (x ∷ xs))) k) z ∙ (before_prepared (set w at x) (at + 1) at xs (omega arith) ∙ get_or-set_same w at x 0 (omega arith))
+prepared w at (suc i) (x ∷ xs) l capacity = let z : at + suc i ≡ at + 1 + i = omega arith in ap (λ (k : ℕ). slice_index (after w (prepares at (x ∷ xs))) k) z ∙ prepared (set w at x) (at + 1) i xs (omega arith) (omega (arith, length-set w at x))
 
 -- the words of new cells, from a cell on
 pub cells_stand : (w : List ℕ) (c : ℕ) (ws : List ℕ) → 4 * c + length ws ≤ length w → Stands (after w (prepares (4 * c) ws)) c ws
-cells_stand w c ws room i l = prepared w (4 * c) i ws l room
+cells_stand w c ws capacity i l = prepared w (4 * c) i ws l capacity

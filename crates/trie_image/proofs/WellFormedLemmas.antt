@@ -19,14 +19,14 @@ use Rattle.trie_image.specs.Place.{IsPlace, place_sees, next_word_of, outcome_of
 use Rattle.trie_image.specs.Laws.{Answers}
 use Rattle.trie_image.proofs.Readings.{sees_none, sees_there}
 use Rattle.trie_image.proofs.Advances.{advances}
-use Rattle.trie_image.proofs.Kept.{same_field, wide_same, sees_same, keeps}
+use Rattle.trie_image.proofs.Kept.{same_field, split_node_same, sees_same, keeps}
 
 split_kept : (w w' : List ℕ) (g : Ledger) (cells : ℕ) → IsImage w g cells → IsSame w w' g → HasSplitNodes w g → HasSplitNodes w' g
 split_kept w w' g cells ok same h = record {
   mids = λ c t i e. let m = h.mids c t i e in let top = h.tops c t i e in (m.0, same_field w w' t i (same.cells t (TopCell top.0) top.1) (omega (arith, m.0)) ∙ m.1);
   tops = h.tops;
   leaves = λ c t i j e. let l = h.leaves c t i j e in (l.0, l.1, l.2, same_field w w' l.0 j (same.cells l.0 (MidCell t i) l.1) l.2 ∙ l.3);
-  children = λ c q e. let b = h.children c q e in (b.0, b.1, λ z. let n = b.2 in n (sym (wide_same w w' g ok.each same.cells c b.0 q e) ∙ z));
+  children = λ c q e. let b = h.children c q e in (b.0, b.1, λ z. let n = b.2 in n (sym (split_node_same w w' g ok.each same.cells c b.0 q e) ∙ z));
 }
 
 pub keeps_well_formed : (w w' : List ℕ) (g : Ledger) (cells : ℕ) → IsWellFormed w g cells → IsSame w w' g

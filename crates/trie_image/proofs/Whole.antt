@@ -1,8 +1,9 @@
 -- The image after a put's publishing store is well formed, with the put added to the puts.
-use Rattle.std.proofs.Common.{◌≡◌, ◌≢◌, ◌⊎◌, ℕ, ◌+◌, ◌<◌, ◌≤◌, List, [], ◌∷◌, ◌++◌, length, slice_get, Option, Some, refl, sym, ap, ◌∙◌, subst, inl, inr, ⊎_elim}
+use Rattle.std.proofs.Common.{◌≡◌, ◌≢◌, ◌⊎◌, ℕ, ◌+◌, ◌<◌, List, [], ◌∷◌, ◌++◌, length, slice_get, Option, Some, refl, sym, ap, ◌∙◌, subst, inl, inr, ⊎_elim}
 use Rattle.std.proofs.lemmas.Bool.{cases_eq}
 use Rattle.cell_layout.specs.Pointers.{kind_at}
 use Rattle.cell_layout.specs.Slots.{slot_at}
+use Rattle.cell_layout.specs.Cells.{record_cells}
 use Rattle.trie_image.specs.declared.Put.{Put}
 use Rattle.trie_image.specs.declared.Place.{Place}
 use Rattle.trie_image.specs.declared.Owner.{Owner}
@@ -11,8 +12,7 @@ use Rattle.trie_image.specs.declared.Ledger.{Ledger}
 use Rattle.trie_image.specs.Reading.{sees, sees_from, Better, Changes}
 use Rattle.trie_image.specs.Image.{word_of, field, child_of, record_of, reading, root_of}
 use Rattle.trie_image.specs.Paths.{owner, HasPath}
-use Rattle.trie_image.specs.Cell.{record_cells}
-use Rattle.trie_image.specs.Puts.{MapsTo}
+use Rattle.trie_image.specs.Puts.{IsKey, IsValue, MapsTo}
 use Rattle.trie_image.specs.WellFormed.{HasRecords, HasSplitNodes, IsWellFormed}
 use Rattle.trie_image.specs.Same.{IsSame}
 use Rattle.trie_image.specs.Place.{IsPlace, place_sees}
@@ -37,8 +37,8 @@ pub record KeepsCells (w w' : List ℕ) (g : Ledger) : Type 0 where
 -- a put within the limits, whose record's cells have their owners
 pub record IsRecorded (g : Ledger) (n : ℕ) (put : Put) : Type 0 where
   pub cells : (j : ℕ) → j < record_cells (length put.value) → owner g (put.cell + j) ≡ Some (RecordCell n j)
-  pub key : (1 ≤ length put.key) × (length put.key ≤ 2048)
-  pub value : length put.value ≤ 65535
+  pub key : IsKey put.key
+  pub value : IsValue put.value
 
 module _ (w w1 w' : List ℕ) (g : Ledger) (cells : ℕ) (own : List Owner) (put : Put) (p p' : ℕ) (h rest : List ℕ) (ok : IsWellFormed w g cells) (same : IsSame w w1 g) (published : Publishes w1 w' (grown g own (put ∷ [])) cells p p' h put.key put.cell) (is_key : h ++ rest ≡ put.key) (better : Better (reading w') p p' rest put.cell) where
   -- the changes, against the words before the put
@@ -83,8 +83,8 @@ module _ (w w1 w' : List ℕ) (g : Ledger) (cells : ℕ) (own : List Owner) (put
       records = record {
         records = λ n j e is l. ⊎_elim (λ (t : slice_get g.puts n ≡ Some e). get_front g.owners own (e.cell + j) (RecordCell n j) (ok.puts.records n j e t l))
             (λ (t : (n ≡ length g.puts) × (e ≡ put)). subst (λ (m : ℕ). owner (grown g own (put ∷ [])) (e.cell + j) ≡ Some (RecordCell m j)) (sym t.0) (subst (λ (x : Put). owner (grown g own (put ∷ [])) (x.cell + j) ≡ Some (RecordCell (length g.puts) j)) (sym t.1) (recorded.cells j (subst (λ (x : Put). j < record_cells (length x.value)) t.1 l)))) (old_or_new g.puts put e n is);
-        keys = λ n e is. ⊎_elim (λ (t : slice_get g.puts n ≡ Some e). ok.puts.keys n e t) (λ (t : (n ≡ length g.puts) × (e ≡ put)). subst (λ (x : Put). (1 ≤ length x.key) × (length x.key ≤ 2048)) (sym t.1) recorded.key) (old_or_new g.puts put e n is);
-        values = λ n e is. ⊎_elim (λ (t : slice_get g.puts n ≡ Some e). ok.puts.values n e t) (λ (t : (n ≡ length g.puts) × (e ≡ put)). subst (λ (x : Put). length x.value ≤ 65535) (sym t.1) recorded.value) (old_or_new g.puts put e n is);
+        keys = λ n e is. ⊎_elim (λ (t : slice_get g.puts n ≡ Some e). ok.puts.keys n e t) (λ (t : (n ≡ length g.puts) × (e ≡ put)). subst (λ (x : Put). IsKey x.key) (sym t.1) recorded.key) (old_or_new g.puts put e n is);
+        values = λ n e is. ⊎_elim (λ (t : slice_get g.puts n ≡ Some e). ok.puts.values n e t) (λ (t : (n ≡ length g.puts) × (e ≡ put)). subst (λ (x : Put). IsValue x.value) (sym t.1) recorded.value) (old_or_new g.puts put e n is);
       }
 
       split : HasSplitNodes w' (grown g own (put ∷ []))

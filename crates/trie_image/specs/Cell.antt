@@ -1,6 +1,7 @@
 -- What each cell holds, by its owner. After the node types of Apache Cassandra's InMemoryTrie.md; records and the layout
 -- of cells are this project's own.
 use Rattle.std.specs.Prelude.{◌≡◌, ◌≢◌, ◌⊎◌, ℕ, zero, suc, ◌+◌, ◌-◌, ◌*◌, ◌/◌, ◌^◌, ◌<◌, ◌≤◌, List, [], ◌∷◌, ◌++◌, length, take, drop, slice_index, slice_get, Some}
+use Rattle.cell_layout.specs.Cells.{record_cells, record_word}
 use Rattle.cell_layout.specs.declared.Kind.TheVariants.{Content, Chain, Sparse, Wide}
 use Rattle.cell_layout.specs.Pointers.{kind_at}
 use Rattle.cell_layout.specs.Slots.{slot_at, IsSparse}
@@ -10,20 +11,6 @@ use Rattle.trie_image.specs.declared.Owner.TheVariants.{HeadCell, RecordCell, Ch
 use Rattle.trie_image.specs.declared.Ledger.{Ledger}
 use Rattle.trie_image.specs.Image.{word_of, field, cell_byte, root_of}
 use Rattle.trie_image.specs.Paths.{owner, HasPath}
-
--- cells of the record of a value of so many bytes
-abbrev pub record_cells : ℕ → ℕ
-record_cells v = (8 + v + 31) / 32
-
--- the little-endian number of some bytes
-abbrev pub number_of_bytes : List ℕ → ℕ
-number_of_bytes [] = 0
-number_of_bytes (b ∷ bs) = b + 256 * number_of_bytes bs
-
--- word i of a record: the put's number and the value's length, and then the value's bytes, filled with zeros
-abbrev pub record_word : ℕ → List ℕ → ℕ → ℕ
-record_word number value zero = length value * 2 ^ 32 + number
-record_word number value (suc i) = number_of_bytes (take 8 (drop (8 * i) value))
 
 module _ (w : List ℕ) (g : Ledger) (c : ℕ) where
   -- the bytes from the offset at which the cell was entered on are the end of its tail's path
@@ -56,7 +43,7 @@ module _ (w : List ℕ) (g : Ledger) (c : ℕ) where
     pub top : List ℕ
     pub is_top : owner g t ≡ Some (TopCell top)
 
-  -- content and a chain, sparse or wide pointer, both with the cell's path
+  -- content and the pointer of a chain, a sparse or a split node, both with the cell's path
   pub record IsPrefixCell (q : List ℕ) : Type 0 where
     pub content : HasPath g (field w c 0) q
     pub is_content : kind_at (field w c 0) ≡ Some Content
@@ -82,8 +69,8 @@ module _ (w : List ℕ) (g : Ledger) (c : ℕ) where
 
 -- an image of so many cells whose cells below `used`, the number of owners, are what their owners say
 pub record IsImage (w : List ℕ) (g : Ledger) (cells : ℕ) : Type 0 where
-  pub wide : length w ≡ 4 * cells
-  pub room : length g.owners ≤ cells
+  pub size : length w ≡ 4 * cells
+  pub capacity : length g.owners ≤ cells
   pub fewer : length g.puts < length g.owners
   pub small : cells ≤ 2 ^ 22
   pub head : owner g 0 ≡ Some HeadCell

@@ -21,14 +21,14 @@ abbrev pub IsInside : Stand → Type 0
 IsInside s = (s.cell < 2 ^ 27) × (s.field < 8)
 
 -- a sparse node that is met has room for a child
-abbrev pub HasRoom : List ℕ → Meets → Stand → Type 0
-HasRoom w Sparse s = child_count (word_of w s.cell 3) < 6
-HasRoom w _ s = Unit {0}
+abbrev pub HasFreeSlot : List ℕ → Meets → Stand → Type 0
+HasFreeSlot w Sparse s = child_count (word_of w s.cell 3) < 6
+HasFreeSlot w _ s = Unit {0}
 
 -- the same of what a step leads to
 abbrev pub StaysInside : List ℕ → Step → Type 0
 StaysInside w (On s) = IsInside s
-StaysInside w (Left meets s) = IsInside s × HasRoom w meets s
+StaysInside w (Left meets s) = IsInside s × HasFreeSlot w meets s
 
 -- at the pointer in a field
 abbrev pub stand_in : List ℕ → ℕ → ℕ → Stand

@@ -1,5 +1,7 @@
 -- The laws of the trie: what holds of paths, places and stores in every image. A well-formed image is one.
 use Rattle.std.specs.Prelude.{◌≡◌, ◌≢◌, ◌⊎◌, ℕ, ◌+◌, ◌*◌, ◌^◌, ◌<◌, ◌≤◌, ◌/◌, ◌%◌, ◌==◌, List, length, slice_get, slice_index, slice_set, replicate, Option, Some, None, [], ◌∷◌, ◌++◌}
+use Rattle.cell_layout.specs.Words.{with_half_of, byte_of, AreBytes}
+use Rattle.cell_layout.specs.Slots.{slot_at}
 use Rattle.trie_image.specs.declared.Place.{Place}
 use Rattle.trie_image.specs.declared.Advance.{Advance}
 use Rattle.trie_image.specs.declared.Advance.TheVariants.{On, Found, Absent}
@@ -7,8 +9,6 @@ use Rattle.trie_image.specs.declared.Put.{Put}
 use Rattle.trie_image.specs.declared.Ledger.{Ledger}
 use Rattle.trie_image.specs.Paths.{owner, HasPath}
 use Rattle.trie_image.specs.declared.Owner.TheVariants.{SparseCell}
-use Rattle.cell_layout.specs.Words.{with_half_of}
-use Rattle.cell_layout.specs.Slots.{slot_at}
 use Rattle.trie_image.specs.Image.{word_of, reading, root_of}
 use Rattle.trie_image.specs.Reading.{sees, sees_from, Closed}
 use Rattle.trie_image.specs.Cell.{IsImage}
@@ -49,7 +49,7 @@ LawOpening = (cells : ℕ) → 1 ≤ cells → cells ≤ 2 ^ 22 → IsWellFormed
 
 -- the start is a place of every image, it sees what the root sees, and its number is at most 4 * len + 3
 abbrev pub LawStart : Type 0
-LawStart = ((w : List ℕ) (g : Ledger) (key : List ℕ) → ((i b : ℕ) → slice_get key i ≡ Some b → b < 256) → IsPlace w g key start_place × (place_sees w key start_place ≡ sees_from (reading w) (root_of w) key))
+LawStart = ((w : List ℕ) (g : Ledger) (key : List ℕ) → AreBytes key → IsPlace w g key start_place × (place_sees w key start_place ≡ sees_from (reading w) (root_of w) key))
     × ((len : ℕ) → measure_of start_place len ≤ 4 * len + 3)
 
 -- the word that a place loads lies in the image
@@ -64,11 +64,6 @@ LawSame = (w w' : List ℕ) (g : Ledger) (cells : ℕ) → IsWellFormed w g cell
 -- a store beyond the cells taken, and one into word 0, are such
 abbrev pub LawFresh : Type 0
 LawFresh = (w : List ℕ) (g : Ledger) (cells i v : ℕ) → IsImage w g cells → (4 * length g.owners ≤ i) ⊎ (i ≡ 0) → IsSame w (slice_set w i v) g
-
--- and so is a store into a half of a sparse cell that its order word does not name
-abbrev pub LawFreeSlot : Type 0
-LawFreeSlot = (w : List ℕ) (g : Ledger) (cells c n p : ℕ) (q : List ℕ) → IsImage w g cells → owner g c ≡ Some (SparseCell q) → n < 6 → ((b : ℕ) → slot_at (word_of w c 3) b ≢ Some n) → p < 2 ^ 32
-    → IsSame w (slice_set w (4 * c + n / 2) (with_half_of (word_of w c (n / 2)) (n % 2 == 1) p)) g
 
 -- the words of a put's new cells, four for each cell, are at most those of its cost
 abbrev pub LawCost : Type 0
@@ -91,6 +86,7 @@ pub record HasShape (stores : List WordStore) (finish : WordStore) : Type 0 wher
 abbrev pub LawShape : Type 0
 LawShape = (w : List ℕ) (used : ℕ) (key value : List ℕ) → HasShape (stores_of w used key value) (store_at 0 (slice_index w 0 + 1) Finish)
 
--- a store into a new cell, beyond those taken, is one that no pointer with a path reads
-abbrev pub LawPrepared : Type 0
-LawPrepared = (w : List ℕ) (g : Ledger) (cells at n : ℕ) (ws : List ℕ) (s : WordStore) → IsImage w g cells → 4 * length g.owners ≤ at → slice_get (prepares at ws) n ≡ Some s → IsSame w (slice_set w s.word s.value) g
+-- word i of the value of a put's record, from 0, is a word of the image, and its bytes are the value's, filled with zeros
+abbrev pub LawRecordWord : Type 0
+LawRecordWord = (w : List ℕ) (g : Ledger) (cells n i : ℕ) (put : Put) → IsWellFormed w g cells → slice_get g.puts n ≡ Some put → 8 * i < length put.value
+    → (4 * put.cell + 1 + i < length w) × ((j : ℕ) → j < 8 → byte_of (slice_index w (4 * put.cell + 1 + i)) j ≡ slice_index put.value (8 * i + j))

@@ -7,11 +7,11 @@ pub mod WellFormed
 pub mod Place
 pub mod Way
 pub mod Same
-pub mod Relink
 pub mod Exit
 pub mod Body
 pub mod Stores
+pub mod Planned
 pub mod After
 pub mod Laws
 pub mod Publish
-pub mod Held
+pub mod NextStore

@@ -21,5 +21,5 @@ pub data HasPath (g : Ledger) (p : ℕ) (q : List ℕ) : Type 0 where
   at_content : (n : ℕ) (e : Put) → kind_at p ≡ Some Content → owner g (record_cell p) ≡ Some (RecordCell n 0) → slice_get g.puts n ≡ Some e → q ≡ e.key → HasPath g p q
   at_chain : (from : ℕ) (t : List ℕ) → kind_at p ≡ Some Chain → owner g (p / 32) ≡ Some (ChainCell from t) → from ≤ p % 32 → q ≡ chain_path t (p % 32) → HasPath g p q
   at_sparse : kind_at p ≡ Some Sparse → owner g (p / 32) ≡ Some (SparseCell q) → HasPath g p q
-  at_wide : kind_at p ≡ Some Wide → owner g (p / 32) ≡ Some (TopCell q) → HasPath g p q
+  at_split : kind_at p ≡ Some Wide → owner g (p / 32) ≡ Some (TopCell q) → HasPath g p q
   at_prefix : kind_at p ≡ Some Prefix → owner g (p / 32) ≡ Some (PrefixCell q) → HasPath g p q

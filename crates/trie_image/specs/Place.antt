@@ -3,7 +3,7 @@
 use Rattle.std.specs.Prelude.{◌≡◌, ℕ, ◌+◌, ◌-◌, ◌*◌, ◌/◌, ◌%◌, ◌<◌, ◌≤◌, ◌==◌, nat_lt, nat_le, if◌then◌else◌, true, false, List, length, take, drop, slice_get, Option, Some, None}
 use Rattle.cell_layout.specs.declared.Kind.{Kind}
 use Rattle.cell_layout.specs.declared.Kind.TheVariants as kind
-use Rattle.cell_layout.specs.Words.{half_of, byte_of}
+use Rattle.cell_layout.specs.Words.{half_of, byte_of, AreBytes}
 use Rattle.cell_layout.specs.Pointers.{kind_at, record_cell}
 use Rattle.cell_layout.specs.Slots.{slot_at}
 use Rattle.trie_image.specs.declared.Role.{Role}
@@ -126,7 +126,7 @@ IsPlaceAt w g key p part taken Leaf = (t : ℕ) × (owner g (p / 32) ≡ Some (L
 
 -- the place is one of the image for the key, which is a list of bytes
 pub record IsPlace (w : List ℕ) (g : Ledger) (key : List ℕ) (pl : Place) : Type 0 where
-  pub bytes : (i b : ℕ) → slice_get key i ≡ Some b → b < 256
+  pub bytes : AreBytes key
   pub role : IsPlaceAt w g key pl.ptr pl.part pl.taken pl.role
 
 -- what a place sees for the rest of the key: what the words that it still loads lead to

@@ -1,5 +1,5 @@
 -- What the stores of a put do to a well-formed image. This project's own.
-use Rattle.std.specs.Prelude.{◌≡◌, ◌⊎◌, ℕ, ◌+◌, ◌-◌, ◌*◌, ◌/◌, ◌<◌, ◌≤◌, List, [], ◌∷◌, ◌++◌, length, take, slice_get, slice_index, Some}
+use Rattle.std.specs.Prelude.{◌≡◌, ◌⊎◌, ℕ, ◌+◌, ◌-◌, ◌*◌, ◌/◌, ◌<◌, ◌≤◌, List, [], ◌∷◌, ◌++◌, length, take, slice_index, Some}
 use Rattle.trie_image.specs.declared.Put.{Put}
 use Rattle.trie_image.specs.declared.Owner.{Owner}
 use Rattle.trie_image.specs.declared.Ledger.{Ledger}
@@ -31,29 +31,3 @@ pub record IsPublished (w w' : List ℕ) (g : Ledger) (cells : ℕ) (own : List 
   pub well_formed : IsWellFormed w' (with_put g own put) cells
   pub pointers : (k : List ℕ) (a : ℕ) (q : List ℕ) → HasPath g a q → (sees (reading w') a k ≡ sees (reading w) a k) ⊎ ((q ++ k ≡ put.key) × (sees (reading w') a k ≡ Some put.cell))
   pub places : (k : List ℕ) (pl : Place) → IsPlace w g k pl → IsPlace w' (with_put g own put) k pl × ((place_sees w' k pl ≡ place_sees w k pl) ⊎ ((k ≡ put.key) × (place_sees w' k pl ≡ Some put.cell)))
-
--- the stores of a put: the words of its new cells, four for each cell, and at most one store into a free slot, change nothing
--- that a pointer with a path reads, one by one; the publishing store adds the put; the last one counts it and changes nothing
--- else; the number of the stores tells the number of the new cells
-pub record IsPutBy (w : List ℕ) (g : Ledger) (cells : ℕ) (put : Put) (stores : List WordStore) : Type 0 where
-  pub words : List ℕ
-  pub slot : List WordStore
-  pub front : List WordStore
-  pub publish : WordStore
-  pub own : List Owner
-  pub new_cells : front ≡ prepares (4 * length g.owners) words ++ slot
-  pub exact : length words ≡ 4 * length own
-  pub at_most_one : length slot ≤ 1
-  pub taken : (length stores - 2) / 4 ≡ length own
-  pub all : stores ≡ front ++ publish ∷ store_at 0 (slice_index w 0 + 1) Finish ∷ []
-  pub prepared : ArePrepares front
-  pub is_publish : publish.kind ≡ Publish
-  pub before : (n : ℕ) → IsSame w (after w (take n front)) g
-  pub published : IsPublished w (after w (front ++ publish ∷ [])) g cells own put
-  pub counting : IsSame (after w (front ++ publish ∷ [])) (after w stores) (with_put g own put)
-  pub finished : IsWellFormed (after w stores) (with_put g own put) cells
-  pub counted : slice_index (after w stores) 0 ≡ slice_index w 0 + 1
-
--- the stores of a put do so in every well-formed image that has room for it
-abbrev pub LawPublish : Type 0
-LawPublish = (w : List ℕ) (used : ℕ) (key value : List ℕ) (can : CanPut w used key value) → ((i b : ℕ) → slice_get key i ≡ Some b → b < 256) → IsPutBy w can.ledger can.cells (put_at key value used) (stores_of w used key value)

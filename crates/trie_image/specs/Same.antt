@@ -20,5 +20,5 @@ SameCell w w' c _ = SameWords w w' c
 
 -- as many words, and every cell taken is the same to its owner
 pub record IsSame (w w' : List ℕ) (g : Ledger) : Type 0 where
-  pub wide : length w' ≡ length w
+  pub size : length w' ≡ length w
   pub cells : (c : ℕ) (o : Owner) → owner g c ≡ Some o → SameCell w w' c o

@@ -3,6 +3,7 @@
 use Rattle.std.specs.Prelude.{◌≡◌, ℕ, ◌+◌, ◌-◌, ◌*◌, ◌/◌, ◌%◌, ◌^◌, ◌==◌, ◌≤◌, List, [], ◌∷◌, ◌++◌, length, drop, slice_index}
 use Rattle.cell_layout.specs.Words.{with_half_of}
 use Rattle.cell_layout.specs.Slots.{child_count, word_with}
+use Rattle.cell_layout.specs.Cells.{record_cells, record_words, chain_cells, chain_from, chain_entry}
 use Rattle.trie_image.specs.declared.StoreKind.{StoreKind}
 use Rattle.trie_image.specs.declared.StoreKind.TheVariants.{Prepare, Publish, Finish}
 use Rattle.trie_image.specs.declared.WordStore.{WordStore}
@@ -12,10 +13,10 @@ use Rattle.trie_image.specs.declared.exit.Meets.{Meets}
 use Rattle.trie_image.specs.declared.exit.Meets.TheVariants.{Content, Nothing, End, Sparse, PastContent}
 use Rattle.trie_image.specs.declared.exit.Exit.{Exit}
 use Rattle.trie_image.specs.Image.{word_of}
-use Rattle.trie_image.specs.Cell.{record_cells}
+use Rattle.trie_image.specs.Puts.{IsKey, IsValue}
 use Rattle.trie_image.specs.WellFormed.{IsWellFormed}
 use Rattle.trie_image.specs.Exit.{exit_of}
-use Rattle.trie_image.specs.Body.{record_words, chain_cells, chain_from, chain_entry, further, published}
+use Rattle.trie_image.specs.Body.{further, published}
 
 -- a store of a word
 abbrev pub store_at : ℕ → ℕ → StoreKind → WordStore
@@ -82,7 +83,6 @@ pub record CanPut (w : List ℕ) (used : ℕ) (key value : List ℕ) : Type 0 wh
   pub image : IsWellFormed w ledger cells
   pub taken : used ≡ length ledger.owners
   pub number : slice_index w 0 ≡ length ledger.puts
-  pub least : 1 ≤ length key
-  pub most : length key ≤ 2048
-  pub short : length value ≤ 65535
-  pub room : used + cost (length key) (length value) ≤ cells
+  pub is_key : IsKey key
+  pub is_value : IsValue value
+  pub capacity : used + cost (length key) (length value) ≤ cells

@@ -1,20 +1,21 @@
 -- When an image is well formed for its owners and puts. After the trie of Apache Cassandra's InMemoryTrie.md; the
 -- definition is this project's own.
-use Rattle.std.specs.Prelude.{[], ◌∷◌, ◌≡◌, ◌≢◌, ℕ, ◌+◌, ◌*◌, ◌<◌, ◌≤◌, List, ◌++◌, length, slice_get, Some}
+use Rattle.std.specs.Prelude.{[], ◌∷◌, ◌≡◌, ◌≢◌, ℕ, ◌+◌, ◌*◌, ◌<◌, List, ◌++◌, length, slice_get, Some}
+use Rattle.cell_layout.specs.Cells.{record_cells}
 use Rattle.trie_image.specs.declared.Put.{Put}
 use Rattle.trie_image.specs.declared.Owner.TheVariants.{HeadCell, RecordCell, TopCell, MidCell, LeafCell}
 use Rattle.trie_image.specs.declared.Ledger.{Ledger}
 use Rattle.trie_image.specs.Reading.{sees_from}
 use Rattle.trie_image.specs.Image.{field, split_child, reading, root_of}
 use Rattle.trie_image.specs.Paths.{owner, HasPath}
-use Rattle.trie_image.specs.Cell.{record_cells, IsImage}
-use Rattle.trie_image.specs.Puts.{MapsTo}
+use Rattle.trie_image.specs.Cell.{IsImage}
+use Rattle.trie_image.specs.Puts.{IsKey, IsValue, MapsTo}
 
 -- each put of the list has its record, within the limits of keys and values
 pub record HasRecords (g : Ledger) : Type 0 where
   pub records : (n j : ℕ) (put : Put) → slice_get g.puts n ≡ Some put → j < record_cells (length put.value) → owner g (put.cell + j) ≡ Some (RecordCell n j)
-  pub keys : (n : ℕ) (put : Put) → slice_get g.puts n ≡ Some put → (1 ≤ length put.key) × (length put.key ≤ 2048)
-  pub values : (n : ℕ) (put : Put) → slice_get g.puts n ≡ Some put → length put.value ≤ 65535
+  pub keys : (n : ℕ) (put : Put) → slice_get g.puts n ≡ Some put → IsKey put.key
+  pub values : (n : ℕ) (put : Put) → slice_get g.puts n ≡ Some put → IsValue put.value
 
 -- the split nodes: each mid and leaf cell stands at its index in its node, and each node has a child
 pub record HasSplitNodes (w : List ℕ) (g : Ledger) : Type 0 where

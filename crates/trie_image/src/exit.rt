@@ -4,8 +4,9 @@ ghost use Rattle.std.specs.Prelude.{◌≡◌, ◌<◌, ◌≤◌, ◌^◌, ◌/
 ghost use Rattle.cell_layout.specs.Pointers.{kind_at};
 ghost use Rattle.cell_layout.specs.Slots.{slot_at};
 ghost use Rattle.trie_image.specs.Image.{word_of, field, cell_byte};
-ghost use Rattle.trie_image.specs.Exit.{stand_at, stand_in, IsInside, HasRoom, StaysInside, end_at, chain_step, slot_step, leaf_step, mid_step, node_step, byte_step, exit_of};
+ghost use Rattle.trie_image.specs.Exit.{stand_at, stand_in, IsInside, HasFreeSlot, StaysInside, end_at, chain_step, slot_step, leaf_step, mid_step, node_step, byte_step, exit_of};
 
+use crate::source::WordSource;
 use cell_layout::{Kind, Ptr, chain_byte, half, kind_of, sparse_count, sparse_find, split_index};
 
 /// Where a walk stands: at the pointer `at`. The pointer that entered this node or chain cell is `entered`, and it stands in
@@ -59,31 +60,37 @@ pub enum Step {
 }
 
 /// Word `place` of a cell, and 0 outside the image.
-pub(crate) fn word_at(words: &[u64], cell: u32, place: u32) -> u64
-    requires { place < 4 }
-    ensures { result ≡ word_of words.now cell place }
+#[inline(always)]
+pub(crate) fn word_at<W: WordSource>(from: &W, seat: &mut W::Seat, cell: u32, place: u32) -> u64
+    requires may { W.may from.now seat.old }
+    requires place { place < 4 }
+    ensures word { result ≡ word_of (W.image from.now seat.old) cell place }
+    ensures same { seat.new ≡ seat.old }
 {
-    words
-        .get(4 * cell as usize + place as usize)
-        .copied()
-        .unwrap_or(0)
+    from.word(seat, 4 * cell as usize + place as usize)
 }
 
 /// The pointer in a 4-byte field of a cell.
-pub(crate) fn pointer_in(words: &[u64], cell: u32, place: u8) -> u32
-    requires { place < 8 }
-    ensures { result ≡ field words.now cell place }
+#[inline(always)]
+pub(crate) fn pointer_in<W: WordSource>(from: &W, seat: &mut W::Seat, cell: u32, place: u8) -> u32
+    requires may { W.may from.now seat.old }
+    requires place { place < 8 }
+    ensures pointer { result ≡ field (W.image from.now seat.old) cell place }
+    ensures same { seat.new ≡ seat.old }
 {
-    half(word_at(words, cell, place as u32 / 2), place % 2 == 1).0
+    half(word_at(from, seat, cell, place as u32 / 2), place % 2 == 1).0
 }
 
-fn standing_in(words: &[u64], cell: u32, place: u8) -> Stand
+#[inline(always)]
+fn standing_in<W: WordSource>(from: &W, seat: &mut W::Seat, cell: u32, place: u8) -> Stand
+    requires may { W.may from.now seat.old }
     requires place { place < 8 }
     requires cell { cell < 2 ^ 27 }
-    ensures stand { result ≡ stand_in words.now cell place }
+    ensures stand { result ≡ stand_in (W.image from.now seat.old) cell place }
     ensures inside { IsInside result }
+    ensures same { seat.new ≡ seat.old }
 {
-    let at = pointer_in(words, cell, place);
+    let at = pointer_in(from, seat, cell, place);
     Stand {
         cell,
         field: place,
@@ -92,16 +99,18 @@ fn standing_in(words: &[u64], cell: u32, place: u8) -> Stand
     }
 }
 
-fn ends(words: &[u64], s: Stand, taken: u32) -> Exit
-    requires { IsInside s }
-    ensures exit { result ≡ end_at words.now s taken (kind_at s.at) }
+fn ends<W: WordSource>(from: &W, seat: &mut W::Seat, s: Stand, taken: u32) -> Exit
+    requires may { W.may from.now seat.old }
+    requires inside { IsInside s }
+    ensures exit { result ≡ end_at (W.image from.now seat.old) s taken (kind_at s.at) }
     ensures inside { IsInside result.stand }
-    ensures room { HasRoom words.now result.meets result.stand }
+    ensures free { HasFreeSlot (W.image from.now seat.old) result.meets result.stand }
+    ensures same { seat.new ≡ seat.old }
 {
     let (meets, stand) = match kind_of(Ptr(s.at)) {
         Some(Kind::Nothing) => (Meets::Nothing, s),
         Some(Kind::Content) => (Meets::Content, s),
-        Some(Kind::Prefix) => (Meets::Content, standing_in(words, s.at / 32, 0)),
+        Some(Kind::Prefix) => (Meets::Content, standing_in(from, seat, s.at / 32, 0)),
         _ => (Meets::End, s),
     };
     Exit {
@@ -111,30 +120,37 @@ fn ends(words: &[u64], s: Stand, taken: u32) -> Exit
     }
 }
 
-fn in_chain(words: &[u64], s: Stand, byte: u8) -> Step
+#[inline(always)]
+fn in_chain<W: WordSource>(from: &W, seat: &mut W::Seat, s: Stand, byte: u8) -> Step
+    requires may { W.may from.now seat.old }
     requires offset { s.at % 32 ≤ 27 }
     requires inside { IsInside s }
-    ensures step { result ≡ chain_step words.now byte s }
-    ensures inside { StaysInside words.now result }
+    ensures step { result ≡ chain_step (W.image from.now seat.old) byte s }
+    ensures inside { StaysInside (W.image from.now seat.old) result }
+    ensures same { seat.new ≡ seat.old }
 {
     let offset = s.at % 32;
-    if chain_byte(word_at(words, s.at / 32, offset / 8), offset as u8) != byte {
+    let word = word_at(from, seat, s.at / 32, offset / 8);
+    if chain_byte(word, offset as u8) != byte {
         Step::Left(Meets::OtherByte, s)
     } else if offset == 27 {
-        Step::On(standing_in(words, s.at / 32, 7))
+        Step::On(standing_in(from, seat, s.at / 32, 7))
     } else {
         Step::On(Stand { at: s.at + 1, ..s })
     }
 }
 
-fn in_sparse(words: &[u64], s: Stand, byte: u8) -> Step
-    requires { IsInside s }
-    ensures step { result ≡ slot_step words.now s (slot_at (word_of words.now (s.at / 32) 3) byte) }
-    ensures inside { StaysInside words.now result }
+#[inline(always)]
+fn in_sparse<W: WordSource>(from: &W, seat: &mut W::Seat, s: Stand, byte: u8) -> Step
+    requires may { W.may from.now seat.old }
+    requires inside { IsInside s }
+    ensures step { result ≡ slot_step (W.image from.now seat.old) s (slot_at (word_of (W.image from.now seat.old) (s.at / 32) 3) byte) }
+    ensures inside { StaysInside (W.image from.now seat.old) result }
+    ensures same { seat.new ≡ seat.old }
 {
-    let order = word_at(words, s.at / 32, 3);
+    let order = word_at(from, seat, s.at / 32, 3);
     match sparse_find(order, byte) {
-        Some(slot) => Step::On(standing_in(words, s.at / 32, slot)),
+        Some(slot) => Step::On(standing_in(from, seat, s.at / 32, slot)),
         None if sparse_count(order) < 6 => Step::Left(
             Meets::Sparse,
             Stand {
@@ -148,6 +164,7 @@ fn in_sparse(words: &[u64], s: Stand, byte: u8) -> Step
     }
 }
 
+#[inline(always)]
 fn missing(meets: Meets, cell: u32, place: u8) -> Step
     ensures { result ≡ Step.Left meets (stand_at cell place 0) }
 {
@@ -162,57 +179,71 @@ fn missing(meets: Meets, cell: u32, place: u8) -> Step
     )
 }
 
-fn in_split(words: &[u64], top: u32, byte: u8) -> Step
-    requires { top < 2 ^ 27 }
-    ensures step { result ≡ mid_step words.now byte top (field words.now top (byte / 64)) }
-    ensures inside { StaysInside words.now result }
+#[inline(always)]
+fn in_split<W: WordSource>(from: &W, seat: &mut W::Seat, top: u32, byte: u8) -> Step
+    requires may { W.may from.now seat.old }
+    requires top { top < 2 ^ 27 }
+    ensures step { result ≡ mid_step (W.image from.now seat.old) byte top (field (W.image from.now seat.old) top (byte / 64)) }
+    ensures inside { StaysInside (W.image from.now seat.old) result }
+    ensures same { seat.new ≡ seat.old }
 {
-    let mid = pointer_in(words, top, split_index(byte, 0));
+    let mid = pointer_in(from, seat, top, split_index(byte, 0));
     if mid == 0 {
         return missing(Meets::NoMid, top, split_index(byte, 0));
     }
-    let leaf = pointer_in(words, mid / 32, split_index(byte, 1));
+    let leaf = pointer_in(from, seat, mid / 32, split_index(byte, 1));
     if leaf == 0 {
         return missing(Meets::NoLeaf, mid / 32, split_index(byte, 1));
     }
-    Step::On(standing_in(words, leaf / 32, split_index(byte, 2)))
+    Step::On(standing_in(from, seat, leaf / 32, split_index(byte, 2)))
 }
 
-fn in_node(words: &[u64], s: Stand, byte: u8) -> Step
-    requires { IsInside s }
-    ensures step { result ≡ node_step words.now byte s (kind_at s.at) }
-    ensures inside { StaysInside words.now result }
+#[inline(always)]
+fn in_node<W: WordSource>(from: &W, seat: &mut W::Seat, s: Stand, byte: u8) -> Step
+    requires may { W.may from.now seat.old }
+    requires inside { IsInside s }
+    ensures step { result ≡ node_step (W.image from.now seat.old) byte s (kind_at s.at) }
+    ensures inside { StaysInside (W.image from.now seat.old) result }
+    ensures same { seat.new ≡ seat.old }
 {
     match kind_of(Ptr(s.at)) {
-        Some(Kind::Chain) => in_chain(words, s, byte),
-        Some(Kind::Sparse) => in_sparse(words, s, byte),
-        Some(Kind::Wide) => in_split(words, s.at / 32, byte),
+        Some(Kind::Chain) => in_chain(from, seat, s, byte),
+        Some(Kind::Sparse) => in_sparse(from, seat, s, byte),
+        Some(Kind::Wide) => in_split(from, seat, s.at / 32, byte),
         _ => Step::Left(Meets::Nothing, s),
     }
 }
 
-fn takes(words: &[u64], s: Stand, byte: u8) -> Step
-    requires { IsInside s }
-    ensures step { result ≡ byte_step words.now byte s (kind_at s.at) }
-    ensures inside { StaysInside words.now result }
+#[inline(always)]
+fn takes<W: WordSource>(from: &W, seat: &mut W::Seat, s: Stand, byte: u8) -> Step
+    requires may { W.may from.now seat.old }
+    requires inside { IsInside s }
+    ensures step { result ≡ byte_step (W.image from.now seat.old) byte s (kind_at s.at) }
+    ensures inside { StaysInside (W.image from.now seat.old) result }
+    ensures same { seat.new ≡ seat.old }
 {
     match kind_of(Ptr(s.at)) {
         Some(Kind::Content) => Step::Left(Meets::PastContent, s),
-        Some(Kind::Prefix) => in_node(words, standing_in(words, s.at / 32, 1), byte),
-        _ => in_node(words, s, byte),
+        Some(Kind::Prefix) => {
+            let under = standing_in(from, seat, s.at / 32, 1);
+            in_node(from, seat, under, byte)
+        }
+        _ => in_node(from, seat, s, byte),
     }
 }
 
 /// Where the walk to the key leaves the trie.
-pub fn exit_of(words: &[u64], key: &[u8]) -> Exit
-    requires { length key.now < 2 ^ 32 }
-    ensures exit { result ≡ exit_of words.now key.now }
+pub fn exit_of<W: WordSource>(from: &W, seat: &mut W::Seat, key: &[u8]) -> Exit
+    requires may { W.may from.now seat.old }
+    requires small { length key.now < 2 ^ 32 }
+    ensures exit { result ≡ exit_of (W.image from.now seat.old) key.now }
     ensures inside { IsInside result.stand }
-    ensures room { HasRoom words.now result.meets result.stand }
+    ensures free { HasFreeSlot (W.image from.now seat.old) result.meets result.stand }
+    ensures same { seat.new ≡ seat.old }
 {
-    let mut here = standing_in(words, 0, 2);
+    let mut here = standing_in(from, seat, 0, 2);
     'bytes: for (taken, &byte) in key.iter().enumerate() {
-        match takes(words, here, byte) {
+        match takes(from, seat, here, byte) {
             Step::On(next) => here = next,
             Step::Left(meets, stand) => {
                 return Exit {
@@ -223,5 +254,5 @@ pub fn exit_of(words: &[u64], key: &[u8]) -> Exit
             }
         }
     }
-    ends(words, here, key.len() as u32)
+    ends(from, seat, here, key.len() as u32)
 }

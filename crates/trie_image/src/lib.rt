@@ -6,17 +6,23 @@
 //! Cassandra's InMemoryTrie.md.
 #![tactic(auto)]
 
-ghost use Rattle.trie_image.specs.Laws.{LawPaths, LawClosed, LawFalls, LawOpening, LawStart, LawAdvance, LawInside, LawCost, LawShape, LawPrepared, LawSame, LawFresh, LawFreeSlot};
-ghost use Rattle.trie_image.specs.Relink.{LawRelink};
-ghost use Rattle.trie_image.specs.Publish.{LawPublish};
+ghost use Rattle.trie_image.specs.Laws.{LawPaths, LawClosed, LawFalls, LawOpening, LawStart, LawAdvance, LawInside, LawCost, LawShape, LawSame, LawFresh, LawRecordWord};
+ghost use Rattle.std.specs.Prelude.{◌≡◌, ◌<◌, ◌≤◌};
+ghost use Rattle.trie_image.specs.Stores.{cost};
+ghost use Rattle.trie_image.specs.Way.{LawLeads};
+ghost use Rattle.trie_image.specs.NextStore.{LawNextStore};
 
 use key_types::ListOf;
 use std::collections::LinkedList;
 
-mod body;
 pub mod exit;
-pub mod owned;
+pub mod few_words;
+pub mod find;
+mod further;
 pub mod plan;
+pub mod put_plan;
+pub mod source;
+mod split_node;
 pub mod walk;
 
 /// Which word a place of a walk loads next, and what for.
@@ -127,6 +133,17 @@ pub struct Ledger {
     pub puts: LinkedList<Put>,
 }
 
+/// How many cells a put of a key and a value of so many bytes takes at most: those of its record, those of a chain of the whole
+/// key, and 16.
+pub fn cost(key_len: usize, value_len: usize) -> u32
+    requires key { key_len ≤ 2048 }
+    requires value { value_len ≤ 65535 }
+    ensures cost { result ≡ cost key_len value_len }
+    ensures small { result < 4096 }
+{
+    (8 + value_len as u32 + 31) / 32 + (key_len as u32 + 27) / 28 + 16
+}
+
 /// Each pointer has at most one path.
 pub fn law_paths()
     ensures { LawPaths }
@@ -172,11 +189,6 @@ pub fn law_shape()
     ensures { LawShape }
 {}
 
-/// A Prepare store into a new cell of a put is one that no pointer with a path reads.
-pub fn law_prepared()
-    ensures { LawPrepared }
-{}
-
 /// A store that no pointer with a path reads keeps the image, its places, and what they and all such pointers see.
 pub fn law_same()
     ensures { LawSame }
@@ -187,23 +199,21 @@ pub fn law_fresh()
     ensures { LawFresh }
 {}
 
-/// So is a store of a pointer into the slot of a sparse cell that its order word doesn't name.
-pub fn law_free_slot()
-    ensures { LawFreeSlot }
+/// Each store of a put, in its turn: a Prepare store changes nothing that a pointer with a path reads, the publishing one adds
+/// the put and its new cells, the Finish counts it in word 0. So it holds from every image between two stores on.
+pub fn law_next_store()
+    ensures { LawNextStore }
 {}
 
-/// Where one pointer stands in place of another that sees the same but for one key, every pointer with a path sees what it
-/// saw, or its path and the rest of the key are this key and it sees the new record.
-pub fn law_relink()
-    ensures { LawRelink }
+/// The words of a put's record hold the bytes of its value.
+pub fn law_record_word()
+    ensures { LawRecordWord }
 {}
 
-/// The stores of a put, in an image that is well formed and has room for its cost: each one before the publishing one changes
-/// nothing that a pointer with a path or a place reads; the publishing one leaves a well-formed image with the put added to
-/// the puts, in which every pointer with a path and every place of a walk sees what it saw, or the new record for the put's
-/// key; the last one counts the put in word 0.
-pub fn law_publish()
-    ensures { LawPublish }
+/// The word that a place on the way to a key loads leads further on the way, to the record of the key's last put, or to none
+/// where no put has the key.
+pub fn law_leads()
+    ensures { LawLeads }
 {}
 
 #[cfg(test)]

@@ -1,21 +1,56 @@
 //! The stores of a put: the words of its new cells, then the store that makes them reachable, then the count of the puts.
 
-ghost use Rattle.std.specs.Prelude.{◌≡◌, ◌+◌, ◌*◌, ◌/◌, ◌-◌, ◌^◌, ◌<◌, ◌≤◌, ◌++◌, length, drop, slice_index, OnOk, IfOk};
-ghost use Rattle.trie_image.specs.Cell.{record_cells};
-ghost use Rattle.trie_image.specs.Exit.{IsInside, HasRoom};
-ghost use Rattle.trie_image.specs.Body.{chain_cells, chain_entry};
-ghost use Rattle.trie_image.specs.Stores.{prepares, field_store, rest_of, content_of, body_words, first_further, entry_of, publish_stores, stores_from, stores_of, CanPut};
+ghost use Rattle.std.specs.Prelude.{◌≡◌, ◌+◌, ◌*◌, ◌/◌, ◌-◌, ◌^◌, ◌<◌, ◌≤◌, [], ◌∷◌, ◌++◌, length, drop, take, slice_index, slice_get, Some, IfOk};
+ghost use Rattle.cell_layout.specs.Cells.{record_cells, chain_cells, chain_entry};
+ghost use Rattle.trie_image.specs.Exit.{IsInside, HasFreeSlot};
+ghost use Rattle.trie_image.specs.Body.{further};
+ghost use Rattle.trie_image.specs.declared.StoreKind.TheVariants.{Finish};
+ghost use Rattle.trie_image.specs.declared.WordStore.{WordStore};
+ghost use Rattle.trie_image.specs.Stores.{store_at, field_store, rest_of, content_of, first_further, entry_of, publish_stores, stores_from, stores_of, CanPut};
+ghost use Rattle.trie_image.specs.Planned.{publishing, words_planned};
 
-use crate::body::{pointer_to_publish, push_chain, push_further, push_record};
 use crate::exit::{Exit, Meets, exit_of, word_at};
+use crate::few_words::FewWords;
+use crate::further::{pointer_to_publish, push_further};
+use crate::put_plan::PutPlan;
+use crate::source::{SliceWords, WordSource};
 use crate::{StoreKind, WordList, WordStore};
-use cell_layout::{Ptr, sparse_add, sparse_count, with_half};
+use cell_layout::{Ptr, sparse_add, sparse_count, with_half, word_of_chain, word_of_record};
 use key_types::{ListOf, NoMemory};
 use std::alloc::Global;
+use std::marker::Model;
 
-/// The stores of a put of the value under the key, in their order: Prepare stores, one Publish, one Finish.
+/// The stores of a put of the value under the key, in their order: Prepare stores, one Publish, one Finish. It takes no memory.
 ///
-/// `used` is the number of cells that are taken. The only refusal is want of memory for the list.
+/// `used` is the number of cells that are taken. The plan keeps the words of some of the new cells in `scratch`.
+pub fn plan<'a, W: WordSource>(
+    from: &W,
+    seat: &mut W::Seat,
+    used: u32,
+    key: &'a [u8],
+    value: &'a [u8],
+    scratch: &'a mut FewWords,
+) -> PutPlan<'a>
+    requires may { W.may from.now seat.old }
+    requires put { CanPut (W.image from.now seat.old) used key.now value.now }
+    ensures stores { result ≡ stores_of (W.image from.now seat.old) used key.now value.now }
+    ensures same { seat.new ≡ seat.old }
+{
+    let exit = exit_of(from, seat, key);
+    let byte = key.get(exit.taken as usize).copied().unwrap_or(0);
+    plan_from(
+        from,
+        seat,
+        used,
+        value,
+        bytes_left(key, exit),
+        exit,
+        byte,
+        scratch,
+    )
+}
+
+/// The same stores as a list. The only refusal is want of memory for it.
 pub fn plan_put(
     alloc: Global,
     words: &[u64],
@@ -26,9 +61,21 @@ pub fn plan_put(
     requires { CanPut words.now used key.now value.now }
     ensures { IfOk result (λ stores. stores ≡ stores_of words.now used key.now value.now) }
 {
-    let exit = exit_of(words, key);
-    let byte = key.get(exit.taken as usize).copied().unwrap_or(0);
-    plan(alloc, words, used, value, bytes_left(key, exit), exit, byte)
+    let mut seat = ();
+    let mut scratch = FewWords::new();
+    let plan = plan(
+        &SliceWords { words },
+        &mut seat,
+        used,
+        key,
+        value,
+        &mut scratch,
+    );
+    let mut stores = ListOf::new(alloc);
+    'stores: for place in 0..plan.len() {
+        stores.push(plan.store(place))?;
+    }
+    Ok(stores)
 }
 
 /// The bytes of the key that the new chain takes.
@@ -65,7 +112,7 @@ fn cells_of_chain(rest: &[u8]) -> u32
 /// The pointer that enters the chain of the rest from a cell on.
 fn enters(first: u32, rest: &[u8], end: u32) -> u32
     requires short { length rest.now ≤ 2048 }
-    requires room { first < 2 ^ 26 }
+    requires small { first < 2 ^ 26 }
     ensures { result ≡ chain_entry first rest.now end }
 {
     if rest.is_empty() {
@@ -108,133 +155,137 @@ fn new_cells(used: u32, value: &[u8], rest: &[u8]) -> NewCells
     }
 }
 
-/// The words of the cells of a put.
-#[tactic(auto, unfolding(crate::specs::Stores::body_words))]
-fn body_of(
-    alloc: Global,
-    words: &[u64],
+/// The stores of a put, from where the walk to its key leaves the trie.
+fn plan_from<'a, W: WordSource>(
+    from: &W,
+    seat: &mut W::Seat,
     used: u32,
-    number: u32,
-    value: &[u8],
-    rest: &[u8],
+    value: &'a [u8],
+    rest: &'a [u8],
     exit: Exit,
     byte: u8,
-) -> Result<ListOf<u64>, NoMemory>
+    scratch: &'a mut FewWords,
+) -> PutPlan<'a>
+    requires may { W.may from.now seat.old }
     requires used { used ≤ 2 ^ 22 }
+    requires number { slice_index (W.image from.now seat.old) 0 < 2 ^ 22 }
     requires short { length rest.now ≤ 2048 }
     requires value { length value.now ≤ 65535 }
-    ensures { IfOk result (λ body. body ≡ body_words words.now used number value.now rest.now exit byte) }
+    requires inside { IsInside exit.stand }
+    requires free { HasFreeSlot (W.image from.now seat.old) exit.meets exit.stand }
+    ensures stores { result ≡ stores_from (W.image from.now seat.old) used value.now rest.now exit byte }
+    ensures same { seat.new ≡ seat.old }
 {
+    let number = word_at(from, seat, 0, 0) as u32 + 1;
     let new = new_cells(used, value, rest);
-    let mut body = ListOf::new(alloc);
-    push_record(&mut body, number, value)?;
-    push_chain(&mut body, new.chain, new.cells, rest, new.content)?;
-    push_further(
-        &mut body,
-        words,
+    let p = pointer_to_publish(exit, new.further, new.content, new.entry);
+    more_words(
+        scratch,
+        from,
+        seat,
         exit,
         byte,
         new.further,
         new.content,
         new.entry,
-    )?;
-    Ok(body)
+    );
+    let more: &'a FewWords = scratch;
+    let (slot, publish) = publish_of(from, seat, exit, byte, new.entry, p);
+    let count = 4 * (new.chain - used) + 4 * new.cells + more.len() as u32;
+    PutPlan {
+        used,
+        number,
+        value,
+        rest,
+        more,
+        value_cells: new.chain - used,
+        rest_cells: new.cells,
+        count,
+        slot,
+        publish,
+    }
 }
 
-/// The stores of a put, from where the walk to its key leaves the trie.
-#[tactic(auto, using(crate::proofs::BodyLengths::length_body))]
-fn plan(
-    alloc: Global,
-    words: &[u64],
-    used: u32,
-    value: &[u8],
-    rest: &[u8],
+fn more_words<W: WordSource>(
+    out: &mut FewWords,
+    from: &W,
+    seat: &mut W::Seat,
     exit: Exit,
     byte: u8,
-) -> Result<WordList, NoMemory>
-    requires used { used ≤ 2 ^ 22 }
-    requires number { slice_index words.now 0 < 2 ^ 22 }
-    requires short { length rest.now ≤ 2048 }
-    requires value { length value.now ≤ 65535 }
-    requires inside { IsInside exit.stand }
-    requires room { HasRoom words.now exit.meets exit.stand }
-    ensures { IfOk result (λ stores. stores ≡ stores_from words.now used value.now rest.now exit byte) }
+    first: u32,
+    content: u32,
+    entry: u32,
+)
+    requires may { W.may from.now seat.old }
+    requires first { first < 2 ^ 26 }
+    ensures words { out.new ≡ further (W.image from.now seat.old) exit.meets exit.stand byte first content entry }
+    ensures same { seat.new ≡ seat.old }
 {
-    let number = word_at(words, 0, 0) as u32 + 1;
-    let new = new_cells(used, value, rest);
-    let p = pointer_to_publish(exit, new.further, new.content, new.entry);
-    let body = body_of(alloc, words, used, number, value, rest, exit, byte)?;
-    let mut stores = ListOf::new(alloc);
-    push_prepares(&mut stores, 4 * used, body.as_slice())?;
-    push_publish(&mut stores, words, exit, byte, new.entry, p)?;
-    stores.push(WordStore {
-        word: 0,
-        value: number as u64,
-        kind: StoreKind::Finish,
-    })?;
-    Ok(stores)
-}
-
-/// A Prepare store for each of the words, from a word of the image on.
-fn push_prepares(stores: &mut WordList, first: u32, words: &[u64]) -> Result<(), NoMemory>
-    requires { first + length words.now < 2 ^ 32 }
-    ensures { OnOk result (stores.new ≡ stores.old ++ prepares first words.now) }
-{
-    'words: for (place, &value) in words.iter().enumerate() {
-        stores.push(WordStore {
-            word: first + place as u32,
-            value,
-            kind: StoreKind::Prepare,
-        })?;
-    }
-    Ok(())
+    out.clear();
+    push_further(out, from, seat, exit, byte, first, content, entry);
 }
 
 /// The store of a pointer into a field of a cell.
-fn store_of_field(words: &[u64], cell: u32, place: u8, p: u32, kind: StoreKind) -> WordStore
+fn store_of_field<W: WordSource>(
+    from: &W,
+    seat: &mut W::Seat,
+    cell: u32,
+    place: u8,
+    p: u32,
+    kind: StoreKind,
+) -> WordStore
+    requires may { W.may from.now seat.old }
     requires cell { cell < 2 ^ 27 }
     requires place { place < 8 }
-    ensures { result ≡ field_store words.now cell place p kind }
+    ensures store { result ≡ field_store (W.image from.now seat.old) cell place p kind }
+    ensures same { seat.new ≡ seat.old }
 {
     let word = place as u32 / 2;
     WordStore {
         word: 4 * cell + word,
-        value: with_half(word_at(words, cell, word), place % 2 == 1, Ptr(p)),
+        value: with_half(word_at(from, seat, cell, word), place % 2 == 1, Ptr(p)),
         kind,
     }
 }
 
-/// The stores that make the new cells reachable.
-fn push_publish(
-    stores: &mut WordList,
-    words: &[u64],
+/// The stores that make the new cells reachable: a free slot's, where there is one, and the publishing one.
+fn publish_of<W: WordSource>(
+    from: &W,
+    seat: &mut W::Seat,
     exit: Exit,
     byte: u8,
     entry: u32,
     p: u32,
-) -> Result<(), NoMemory>
+) -> (Option<WordStore>, WordStore)
+    requires may { W.may from.now seat.old }
     requires inside { IsInside exit.stand }
-    requires room { HasRoom words.now exit.meets exit.stand }
-    ensures { OnOk result (stores.new ≡ stores.old ++ publish_stores words.now exit.meets exit.stand byte entry p) }
+    requires free { HasFreeSlot (W.image from.now seat.old) exit.meets exit.stand }
+    ensures stores { publishing result.0 result.1 ≡ publish_stores (W.image from.now seat.old) exit.meets exit.stand byte entry p }
+    ensures same { seat.new ≡ seat.old }
 {
     let s = exit.stand;
     match exit.meets {
         Meets::Sparse => {
-            let order = word_at(words, s.cell, 3);
-            stores.push(store_of_field(
-                words,
+            let order = word_at(from, seat, s.cell, 3);
+            let slot = store_of_field(
+                from,
+                seat,
                 s.cell,
                 sparse_count(order),
                 entry,
                 StoreKind::Prepare,
-            ))?;
-            stores.push(WordStore {
+            );
+            let publish = WordStore {
                 word: 4 * s.cell + 3,
                 value: sparse_add(order, byte).0,
                 kind: StoreKind::Publish,
-            })
+            };
+            (Some(slot), publish)
         }
-        _ => stores.push(store_of_field(words, s.cell, s.field, p, StoreKind::Publish)),
+        _ => (
+            None,
+            store_of_field(from, seat, s.cell, s.field, p, StoreKind::Publish),
+        ),
     }
 }
 

@@ -1,5 +1,7 @@
 //! The walk to a key, step by step, over the image after one put of the key 61 with an empty value: its record is cell 1,
 //! its chain cell 2.
+use crate::find::find;
+use crate::source::SliceWords;
 use crate::walk::{advance, lookup, next_word, start};
 use crate::{Advance, Place, Rec, Role};
 
@@ -48,4 +50,11 @@ fn another_byte_is_absent(rt: HostRuntime) {
 fn the_opening_image_has_no_key(rt: HostRuntime) {
     let words = [0; 16];
     assert_eq!(rt; lookup(&words, &[0x61]), None);
+}
+
+#[test]
+fn a_source_of_the_opening_image_has_no_key(rt: HostRuntime) {
+    let words = [0; 16];
+    let from = SliceWords { words: &words };
+    assert_eq!(rt; find(&from, &mut (), &[0x61]), None);
 }

@@ -1,5 +1,5 @@
-use Rattle.std.proofs.Common.{refl, arith}
+use Rattle.trie_image.proofs.PublicLaws.{law_start}
 use Rattle.trie_image.proofs.law_start.Goals as goal
 
 pub returns : goal.returns
-returns c = ((λ w g key bytes. (record { bytes = bytes; role = refl }, refl)), λ len. omega arith)
+returns c = law_start

@@ -1,8 +1,7 @@
-use Rattle.std.proofs.Common.{arith}
+use Rattle.std.proofs.Common.{List, ◌++◌, [], ◌∷◌, sym, ap, ◌∙◌}
+use Rattle.trie_image.specs.declared.WordStore.{WordStore}
+use Rattle.trie_image.proofs.Planned.{take_here}
 use Rattle.trie_image.proofs.plan.plan_put.Goals as goal
 
-pub plan-requires-clause-used : goal.plan-requires-clause-used
-plan-requires-clause-used c = let r = c.requires in omega (arith, r.room, r.image.image.small)
-
-pub plan-requires-clause-number : goal.plan-requires-clause-number
-plan-requires-clause-number c = let r = c.requires in let i = r.image.image in omega (arith, r.number, i.fewer, i.room, i.small)
+pub stores-preserved : goal.stores-preserved
+stores-preserved c = c.in_ok-push.ensures.ok ∙ (ap (λ (l : List WordStore). l ++ c.store.result ∷ []) c.stores.invariant ∙ sym (take_here c.plan-plan.result c.stores.place c.store.result c.store.ensures))

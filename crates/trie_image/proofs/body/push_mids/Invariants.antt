@@ -1,6 +1,0 @@
-use Rattle.std.proofs.Common.{◌≡◌, ◌++◌}
-use Rattle.trie_image.specs.Body.{mid_words}
-use Rattle.trie_image.proofs.body.push_mids.Given as goal
-
-abbrev pub invariant-mids : goal.invariant-mids
-invariant-mids l = l.out ≡ l.fn.out ++ mid_words l.bytes l.top l.index

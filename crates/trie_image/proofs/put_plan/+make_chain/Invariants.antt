@@ -1,0 +1,4 @@
+use Rattle.trie_image.proofs.put_plan.+make_chain.Given as goal
+
+abbrev pub decreases-make_chain : goal.decreases-make_chain
+decreases-make_chain l = l.cells

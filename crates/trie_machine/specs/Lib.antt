@@ -1,0 +1,5 @@
+pub mod Fresh
+pub mod State
+pub mod Events
+pub mod Laws
+pub mod Counted
