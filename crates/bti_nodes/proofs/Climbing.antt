@@ -12,15 +12,15 @@ use Rattle.bti_nodes.specs.declared.node.NodeError.{NodeError}
 use Rattle.bti_nodes.specs.Grammar.{Node, Climbs, AllBack, byte_at, kind_at, places_of, body_len, payload_len, letter_at, distance_at, child_of, child_by, node_by, ascends, in_order, all_point_back, refusal, unless, node_at}
 use Rattle.bti_nodes.proofs.Places.{all_back}
 
-unless_ok : (r : Option NodeError) (n m : Node) → unless r n ≡ Ok m → (r ≡ None) × (n ≡ m)
+pub unless_ok : (r : Option NodeError) (n m : Node) → unless r n ≡ Ok m → (r ≡ None) × (n ≡ m)
 unless_ok None n m h = (refl, cc)
 unless_ok (Some e) n m h = cc
 
-guard : (b : Bool) (e : NodeError) (rest : Option NodeError) → (if b then Some e else rest) ≡ None → (b ≡ false) × (rest ≡ None)
+pub guard : (b : Bool) (e : NodeError) (rest : Option NodeError) → (if b then Some e else rest) ≡ None → (b ≡ false) × (rest ≡ None)
 guard true e rest h = cc
 guard false e rest h = (refl, h)
 
-not_false : (b : Bool) → not b ≡ false → b ≡ true
+pub not_false : (b : Bool) → not b ≡ false → b ≡ true
 not_false true h = refl
 not_false false h = cc
 
@@ -82,7 +82,7 @@ letters_up Sparse width n bytes e h o i l =
     omega (arith, goes_up (take n (drop 2 bytes)) i two.1 (omega (arith, part_len bytes n room)), in_part bytes n i room (omega arith), in_part bytes n (i + 1) room (omega arith))
 letters_up Dense width n bytes e h o i l = omega arith
 
-climbs_by : (kind : Kind) (n : ℕ) (bytes : List ℕ) → n ≡ places_of kind.shape bytes → body_len kind.shape kind.width n ≤ length bytes → in_order kind.shape n bytes ≡ true → Climbs 0 (node_by kind n bytes).places
+pub climbs_by : (kind : Kind) (n : ℕ) (bytes : List ℕ) → n ≡ places_of kind.shape bytes → body_len kind.shape kind.width n ≤ length bytes → in_order kind.shape n bytes ≡ true → Climbs 0 (node_by kind n bytes).places
 unfolding node_by child_by
 climbs_by kind n bytes e h o =
     climb (letter_at kind.shape kind.width bytes) (distance_at kind.shape kind.width n bytes) 0 0 n (λ s. omega arith) (λ i x y. letters_up kind.shape kind.width n bytes e h o i y)

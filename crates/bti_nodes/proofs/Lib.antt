@@ -12,3 +12,5 @@ pub mod AgainFew
 pub mod AgainMany
 pub mod RoundTrip
 pub mod Numbers
+pub mod Sides
+pub mod Full

@@ -33,7 +33,7 @@ both_true : (a b : Bool) → IsTrue (a && b) → IsTrue a × IsTrue b
 both_true true b h = (refl, h)
 both_true false b h = cc
 
-at_each : (n i : ℕ) (p : ℕ → Bool) → IsTrue (each_below n p) → i < n → IsTrue (p i)
+pub at_each : (n i : ℕ) (p : ℕ → Bool) → IsTrue (each_below n p) → i < n → IsTrue (p i)
 at_each zero i p h l = absurd (omega arith)
 at_each (suc n) i p h l =
     let two = both_true (each_below n p) (p n) h in

@@ -5,3 +5,6 @@ pub mod Packing
 pub mod Vectors
 pub mod Laws
 pub mod Payloads
+pub mod Children
+pub mod Causes
+pub mod Trie

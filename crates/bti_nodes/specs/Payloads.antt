@@ -21,17 +21,25 @@ abbrev pub signed_bytes : ℤ → List ℕ
 signed_bytes (pos n) = big_bytes (bytes_for (2 * n)) n
 signed_bytes (negsuc n) = let k = bytes_for (2 * n) in big_bytes k (2 ^ (8 * k) - 1 - n)
 
+-- the number that a payload spells, without a sign
+abbrev pub unsigned_number : List ℕ → ℕ
+unsigned_number bytes = big_number (length bytes) bytes
+
+-- and with a sign
+abbrev pub signed_number : List ℕ → ℤ
+signed_number bytes = twos_complement (length bytes) (big_number (length bytes) bytes)
+
 -- no fewer bytes, at least one, can hold the number
 abbrev pub IsFewest : ℕ → ℕ → Type 0
 IsFewest n k = (j : ℕ) → 1 ≤ j → n < 256 ^ j → k ≤ j
 
 -- the bytes of a number read as that number, and are the fewest that can
 pub record IsUnsigned (n : ℕ) (bytes : List ℕ) : Type 0 where
-  pub reads : big_number (length bytes) bytes ≡ n
+  pub reads : unsigned_number bytes ≡ n
   pub fewest : IsFewest n (length bytes)
 
 pub record IsSigned (z : ℤ) (bytes : List ℕ) : Type 0 where
-  pub reads : twos_complement (length bytes) (big_number (length bytes) bytes) ≡ z
+  pub reads : signed_number bytes ≡ z
   pub fewest : IsFewest (doubled z) (length bytes)
 
 -- the payload calls' numbers

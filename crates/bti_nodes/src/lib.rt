@@ -20,7 +20,7 @@ pub use laws::{
 };
 pub use node::{Child, ChildList, NodeError, NodeParts, Payload};
 pub use outline::{Outline, outline_of, outline_size, outline_weight};
-pub use payload::{signed_payload, unsigned_payload};
+pub use payload::{read_signed, read_unsigned, signed_payload, unsigned_payload};
 pub use view::{NodeView, node_of, parse_node};
 
 #[cfg(test)]

@@ -2,6 +2,7 @@
 ghost use Rattle.std.specs.Prelude.{◌≡◌, ◌≤◌};
 
 use key_types::ListOf;
+use thiserror::Error;
 
 /// A payload: the first `count` of the bytes, at most 7. A count of 0 is no payload.
 #[derive(Clone, Copy, Debug, PartialEq, Eq)]
@@ -41,14 +42,18 @@ pub struct NodeParts {
 }
 
 /// Why no node begins at a place of a page.
-#[derive(Clone, Copy, Debug, PartialEq, Eq)]
+#[derive(Clone, Copy, Debug, PartialEq, Eq, Error)]
 pub enum NodeError {
     /// The bytes of the node go past the page.
+    #[error("the node goes past its page")]
     PastPage,
     /// A sparse node without bytes or whose bytes don't ascend, or a dense node that passes the byte FF.
+    #[error("the node's transition bytes don't ascend")]
     BadOrder,
     /// A distance 0 where a child has to stand, or one that leads before the start of the file.
+    #[error("a child of the node doesn't stand before it")]
     BadPointer,
     /// A node without payload and children, or payload bits above 7.
+    #[error("the node's payload bits name no payload")]
     BadPayload,
 }

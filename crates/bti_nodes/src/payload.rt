@@ -1,8 +1,8 @@
 //! Numbers as payloads.
-ghost use Rattle.std.specs.Prelude.{◌≡◌, ◌<◌, ◌≤◌, ◌^◌, ◌-◌, negsuc, pos, ◌≤ℤ◌, ◌<ℤ◌};
+ghost use Rattle.std.specs.Prelude.{◌≡◌, ◌<◌, ◌≤◌, ◌^◌, ◌-◌, negsuc, pos, ◌≤ℤ◌, ◌<ℤ◌, length};
 ghost use Rattle.byteorder.specs.Endian.{big_bytes};
 ghost use Rattle.bti_nodes.specs.Spelling.{bytes_in};
-ghost use Rattle.bti_nodes.specs.Payloads.{bytes_for, unsigned_bytes, signed_bytes};
+ghost use Rattle.bti_nodes.specs.Payloads.{bytes_for, unsigned_bytes, signed_bytes, unsigned_number, signed_number};
 
 use crate::node::Payload;
 use byteorder::{BigEndian, ByteOrder};
@@ -75,4 +75,23 @@ pub fn signed_payload(n: i64) -> Payload
         let count = bytes_for(n as u64 * 2);
         payload_of(n as u64, count)
     }
+}
+
+/// The number without a sign that a payload spells.
+pub fn read_unsigned(payload: &[u8]) -> u64
+    requires some { 0 < length payload.now }
+    requires few { length payload.now ≤ 7 }
+    ensures number { result ≡ unsigned_number payload.now }
+    ensures small { result < 2 ^ 56 }
+{
+    BigEndian::read_uint(payload, payload.len())
+}
+
+/// The number with a sign that a payload spells in two's complement.
+pub fn read_signed(payload: &[u8]) -> i64
+    requires some { 0 < length payload.now }
+    requires few { length payload.now ≤ 7 }
+    ensures { result ≡ signed_number payload.now }
+{
+    BigEndian::read_int(payload, payload.len())
 }

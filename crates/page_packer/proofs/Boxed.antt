@@ -7,8 +7,9 @@ use Rattle.bti_nodes.specs.declared.outline.Outline.{Outline}
 use Rattle.bti_nodes.specs.Spelling.{bytes_in, outline_by, outline_size, distant, first_letter, last_letter, greatest}
 use Rattle.page_packer.specs.Tree.{Tree, Branches, tree, end, branch, path, with_key, with_branch, weight, weights, weight_here, letters, unplaced}
 use Rattle.page_packer.specs.Sound.{Ascend, IsFull, Sound, SoundUnder}
+use Rattle.page_packer.specs.declared.boxes.Branch.{Branch}
 use Rattle.page_packer.specs.declared.boxes.Link.{Link, End, Last'}
-use Rattle.page_packer.specs.Boxes.{branches_of, and_last, with_path, EndsUnder, capped}
+use Rattle.page_packer.specs.Boxes.{branches_of, and_last, node_in, with_path, EndsUnder, capped, IsWeighed, IsKept, Sees}
 
 by_test : (t : Bool) (d : ℕ) (u : Tree) (x y : Branches) → branch d u (if t then x else y) ≡ (if t then branch d u x else branch d u y)
 by_test true d u x y = refl
@@ -59,12 +60,12 @@ no_distance : (ls : List ℕ) → greatest (map unplaced ls) ≡ 0
 no_distance [] = refl
 no_distance (l ∷ ls) = let h = no_distance ls in omega (arith, h)
 
-last_more : (ls : List ℕ) (b : ℕ) → last_letter (map unplaced (ls ++ b ∷ [])) ≡ b
+pub last_more : (ls : List ℕ) (b : ℕ) → last_letter (map unplaced (ls ++ b ∷ [])) ≡ b
 last_more [] b = refl
 last_more (l ∷ []) b = refl
 last_more (l ∷ m ∷ ls) b = last_more (m ∷ ls) b
 
-count_more : (ls : List ℕ) (b : ℕ) → length (map unplaced (ls ++ b ∷ [])) ≡ length (map unplaced ls) + 1
+pub count_more : (ls : List ℕ) (b : ℕ) → length (map unplaced (ls ++ b ∷ [])) ≡ length (map unplaced ls) + 1
 count_more [] b = refl
 count_more (l ∷ ls) b = let h = count_more ls b in omega (arith, h)
 
@@ -72,7 +73,7 @@ first_else : (t : Bool) (x y : ℕ) → t ≡ false → (if t then x else y) ≡
 first_else true x y h = cc
 first_else false x y h = refl
 
-first_more : (ls : List ℕ) (b : ℕ) → first_letter (map unplaced (ls ++ b ∷ [])) ≡ (if length (map unplaced ls) == 0 then b else first_letter (map unplaced ls))
+pub first_more : (ls : List ℕ) (b : ℕ) → first_letter (map unplaced (ls ++ b ∷ [])) ≡ (if length (map unplaced ls) == 0 then b else first_letter (map unplaced ls))
 first_more [] b = refl
 first_more (l ∷ ls) b = sym (first_else (length (map unplaced (l ∷ ls)) == 0) b l (grind (arith, nat_tests)))
 
@@ -158,4 +159,16 @@ on_ok (Err e) P Q f h = h
 -- a key whose first byte no last branch has goes behind the branches
 pub put_after : (link : Link) (key p : List ℕ) → 1 ≤ length key → (EndsUnder link (get_or key 0 0) → ⊥) → and_last (branches_of link) (get_or key 0 0) (path (after key) p) ≡ with_path (branches_of link) key p
 put_after End key p l apart = add_first key p end l refl
-put_after (Last' q byte w payload children before) key p l apart = add_behind key p (branches_of before) byte (tree (bytes_in payload) (branches_of children)) _ l apart refl
+put_after (Last' q byte w so_far payload children before) key p l apart = add_behind key p (branches_of before) byte (tree (bytes_in payload) (branches_of children)) _ l apart refl
+
+-- boxes that are weighed are so along the last branches too
+pub kept : (link : Link) → IsWeighed link → IsKept link
+kept End h = tt
+kept (Last' q byte w so_far payload children before) h = (kept children h.2, h.3)
+
+-- a box that was weighed, and one that is along the last branches
+abbrev pub WeighedBox : Branch → Type 0
+WeighedBox b = (b.weight ≡ capped (weight (node_in b))) × Sees b.so_far (and_last (branches_of b.before) b.byte (node_in b)) × IsWeighed b.children × IsWeighed b.before
+
+abbrev pub KeptBox : Branch → Type 0
+KeptBox b = IsKept b.children × IsWeighed b.before

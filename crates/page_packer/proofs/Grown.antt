@@ -9,17 +9,8 @@ use Rattle.std.specs.declared.cmp.Ordering.TheVariants.{Less, Equal, Greater}
 use Rattle.std.specs.Ordering.{nat_cmp, ordering_then}
 use Rattle.std.specs.Cmp.Lexicographic.{slice_cmp}
 use Rattle.page_packer.specs.Tree.{Tree, Branches, tree, end, branch, Entry, IsBelow, IsEntry, AscendFrom, AreEntries, key_after, last_key, path, with_key, with_branch, grown, tree_of, below, own, entries_of, entries_under, letters}
+pub use Rattle.page_packer.specs.Last.{last_of, last_under}
 use Rattle.page_packer.specs.Sound.{Ascend, IsFull, Sound, SoundUnder}
-
--- the key along the last branches
-abbrev mutual
-  pub last_of : Tree → List ℕ
-  last_of (tree q bs) = last_under bs
-
-  pub last_under : Branches → List ℕ
-  last_under end = []
-  last_under (branch b t end) = b ∷ last_of t
-  last_under (branch b t (branch c u bs)) = last_under (branch c u bs)
 
 -- a key above the last key, by its first byte
 first_by : (o r : Ordering) → ordering_then o r ≡ Less → (o ≡ Less) ⊎ ((o ≡ Equal) × (r ≡ Less))
@@ -38,7 +29,7 @@ last_behind : (c : ℕ) (t : Tree) (bs : Branches) → 0 < length (letters bs) �
 last_behind c t end h = absurd (omega arith)
 last_behind c t (branch d u bs) h = refl
 
-first_bytes : (c b : ℕ) (x k : List ℕ) → IsBelow (c ∷ x) (b ∷ k) → (c < b) ⊎ ((c ≡ b) × IsBelow x k)
+pub first_bytes : (c b : ℕ) (x k : List ℕ) → IsBelow (c ∷ x) (b ∷ k) → (c < b) ⊎ ((c ≡ b) × IsBelow x k)
 first_bytes c b x k h =
     elim (first_by (nat_cmp c b) (slice_cmp nat_cmp x k) h) as (λ _. (c < b) ⊎ ((c ≡ b) × IsBelow x k)) [ inl less ↦ inl (less_than c b less) | inr same ↦ inr (equal_to c b same.0, same.1) ]
 
@@ -46,14 +37,14 @@ pub never_below : (x : List ℕ) → IsBelow x [] → ⊥
 never_below [] h = cc
 never_below (a ∷ x) h = cc
 
-path_sound : (k p : List ℕ) → AllByRecursion (λ b. b < 256) k → 0 < length p → length p ≤ 7 → Sound (path k p) × IsFull (path k p) × (last_of (path k p) ≡ k)
+pub path_sound : (k p : List ℕ) → AllByRecursion (λ b. b < 256) k → 0 < length p → length p ≤ 7 → Sound (path k p) × IsFull (path k p) × (last_of (path k p) ≡ k)
 path_sound [] p bytes paid short = ((short, tt, tt), omega arith, refl)
 path_sound (b ∷ k) p bytes paid short =
     let h = path_sound k p bytes.1 paid short in
     ((omega arith, (omega arith, bytes.0, tt), (h.0, h.1, tt)), omega arith, ap (λ l. b ∷ l) h.2)
 
 -- a branch that comes after others stands under a greater byte
-low_below : (low b : ℕ) (rest : List ℕ) (c : ℕ) (t : Tree) (bs : Branches) → Ascend low (branch c t bs) → IsBelow (last_under (branch c t bs)) (b ∷ rest) → low ≤ b
+pub low_below : (low b : ℕ) (rest : List ℕ) (c : ℕ) (t : Tree) (bs : Branches) → Ascend low (branch c t bs) → IsBelow (last_under (branch c t bs)) (b ∷ rest) → low ≤ b
 low_below low b rest c t end a h =
     elim (first_bytes c b (last_of t) rest h) as (λ _. low ≤ b) [ inl less ↦ omega (arith, less, a.0) | inr same ↦ omega (arith, same.0, a.0) ]
 low_below low b rest c t (branch d u bs) a h = let k = low_below (c + 1) b rest d u bs a.2 h in omega (arith, k, a.0)
@@ -62,7 +53,7 @@ abbrev GrownUnder : ℕ → List ℕ → Branches → Type 0
 GrownUnder low key bs = Ascend low bs × SoundUnder bs × (0 < length (letters bs)) × (last_under bs ≡ key)
 
 mutual
-  key_sound : (t : Tree) (k p : List ℕ) → Sound t → AllByRecursion (λ b. b < 256) k → 0 < length p → length p ≤ 7 → IsBelow (last_of t) k → Sound (with_key t k p) × IsFull (with_key t k p) × (last_of (with_key t k p) ≡ k)
+  pub key_sound : (t : Tree) (k p : List ℕ) → Sound t → AllByRecursion (λ b. b < 256) k → 0 < length p → length p ≤ 7 → IsBelow (last_of t) k → Sound (with_key t k p) × IsFull (with_key t k p) × (last_of (with_key t k p) ≡ k)
   key_sound (tree q bs) [] p s bytes paid short h = absurd (never_below (last_under bs) h)
   key_sound (tree q bs) (b ∷ rest) p s bytes paid short h =
       let r = branch_sound bs 0 b rest p s.1 s.2 (omega arith) bytes.0 bytes.1 paid short h in
@@ -87,7 +78,7 @@ mutual
       let r = branch_sound (branch d u bs) (c + 1) b rest p a.2 s.2 (low_below (c + 1) b rest d u bs a.2 h) m bytes paid short h in
       ((a.0, a.1, r.0), (s.0, s.1, r.1), omega arith, last_behind c t (with_branch (branch d u bs) b rest p) r.2 ∙ r.3)
 
-grown_sound : (es : List Entry) (t : Tree) → Sound t → AscendFrom (last_of t) es → Sound (grown t es) × (last_of (grown t es) ≡ key_after (last_of t) es)
+pub grown_sound : (es : List Entry) (t : Tree) → Sound t → AscendFrom (last_of t) es → Sound (grown t es) × (last_of (grown t es) ≡ key_after (last_of t) es)
 grown_sound [] t s h = (s, refl)
 grown_sound (e ∷ es) t s h =
     let r = key_sound t e.key e.payload s h.1.bytes h.1.paid h.1.short h.0 in

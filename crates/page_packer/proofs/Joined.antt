@@ -90,7 +90,7 @@ node_fine q bs cs low at short full a s between close = record {
 
 pub weight_is : (link : Link) → weight_in link ≡ weights (branches_of link)
 weight_is End = refl
-weight_is (Last' p byte w payload children before) =
+weight_is (Last' p byte w so_far payload children before) =
     let a = weight_is before in
     let b = weight_is children in
     omega (arith, a, b, weights_last (branches_of before) byte (tree (bytes_in payload) (branches_of children)))

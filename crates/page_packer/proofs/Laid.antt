@@ -28,13 +28,13 @@ other_laid : (b : Bool) (x y : Laid) → b ≡ false → (if b then x else y) �
 other_laid true x y h = cc
 other_laid false x y h = refl
 
-lay_light_is : (q : List ℕ) (bs : Branches) (p : ℕ) → weight (tree q bs) ≤ 4096 → lay (tree q bs) p ≡ shifted (gap p (weight (tree q bs))) (packed (tree q bs) (p + gap p (weight (tree q bs))))
+pub lay_light_is : (q : List ℕ) (bs : Branches) (p : ℕ) → weight (tree q bs) ≤ 4096 → lay (tree q bs) p ≡ shifted (gap p (weight (tree q bs))) (packed (tree q bs) (p + gap p (weight (tree q bs))))
 lay_light_is q bs p h =
     let t = tree q bs in
     let yes : light t ≡ true = grind (arith, nat_tests) in
     chosen_laid (light t) (shifted (gap p (weight t)) (packed t (p + gap p (weight t)))) (closed_in_page q (lay_under bs p) (p + length (lay_under bs p).bytes)) yes
 
-lay_heavy_is : (q : List ℕ) (bs : Branches) (p : ℕ) → 4096 < weight (tree q bs) → lay (tree q bs) p ≡ closed_in_page q (lay_under bs p) (p + length (lay_under bs p).bytes)
+pub lay_heavy_is : (q : List ℕ) (bs : Branches) (p : ℕ) → 4096 < weight (tree q bs) → lay (tree q bs) p ≡ closed_in_page q (lay_under bs p) (p + length (lay_under bs p).bytes)
 lay_heavy_is q bs p h =
     let t = tree q bs in
     let no : light t ≡ false = grind (arith, nat_tests) in
@@ -114,13 +114,13 @@ heavy_closed out1 out2 out3 s1 s2 s3 start base at byte q cs big n e2 f2 m e3 f3
           ∙ ap (λ (l : Laid). s1 ++ record { byte = byte; position = l.root } ∷ []) (sym whole),
     )
 
-counts_last : (bs : Branches) (b : ℕ) (t : Tree) → counts (and_last bs b t) ≡ counts bs + count t
+pub counts_last : (bs : Branches) (b : ℕ) (t : Tree) → counts (and_last bs b t) ≡ counts bs + count t
 counts_last end b t = omega arith
 counts_last (branch c u bs) b t = let h = counts_last bs b t in omega (arith, h)
 
 pub count_is : (link : Link) → count_in link ≡ counts (branches_of link)
 count_is End = refl
-count_is (Last' p byte w payload children before) =
+count_is (Last' p byte w so_far payload children before) =
     let a = count_is before in
     let b = count_is children in
     omega (arith, a, b, counts_last (branches_of before) byte (tree (bytes_in payload) (branches_of children)))
@@ -128,7 +128,7 @@ count_is (Last' p byte w payload children before) =
 -- sound branches in boxes
 pub sound_link : (link : Link) → Ascend 0 (branches_of link) → SoundUnder (branches_of link) → IsSoundLink link
 sound_link End a s = tt
-sound_link (Last' p byte w payload children before) a s =
+sound_link (Last' p byte w so_far payload children before) a s =
     let bs = branches_of before in
     let t = tree (bytes_in payload) (branches_of children) in
     let here = sound_last bs byte t s in
@@ -140,7 +140,7 @@ sound_more (branch c u bs) b t s h f = (s.0, s.1, sound_more bs b t s.2 h f)
 
 pub link_sound : (link : Link) → IsSoundLink link → SoundUnder (branches_of link)
 link_sound End h = tt
-link_sound (Last' p byte w payload children before) h =
+link_sound (Last' p byte w so_far payload children before) h =
     sound_more (branches_of before) byte (tree (bytes_in payload) (branches_of children)) (link_sound before h.5) (h.0, h.1, h.2) h.3
 
 -- where the branches' children stand among those that wait

@@ -13,7 +13,7 @@ use Rattle.page_packer.specs.declared.work.Stood.{Stood}
 use Rattle.page_packer.proofs.Grown.{sound_tree}
 use Rattle.page_packer.proofs.Pages.{SameLetters, Between, near, wider, few, last_below, laid_letters, node_some, packed_len, root_between, light_means}
 
-abbrev branches : Branches → ℕ
+abbrev pub branches : Branches → ℕ
 branches end = 0
 branches (branch b t bs) = branches bs + 1
 
@@ -28,7 +28,7 @@ n_children (branch b t bs) [] s = absurd s
 n_children (branch b t bs) (c ∷ cs) s = ap suc (n_children bs cs s.1) ∙ omega arith
 
 -- the bytes of a node whose children stand near
-node_short : (q : List ℕ) (bs : Branches) (cs : List Stood) (low at : ℕ) → length q ≤ 7 → Ascend 0 bs → SameLetters bs cs → Between low at cs → at - low < 2 ^ 40 → length (node_at_place q cs at) ≤ 9 + 6 * branches bs
+pub node_short : (q : List ℕ) (bs : Branches) (cs : List Stood) (low at : ℕ) → length q ≤ 7 → Ascend 0 bs → SameLetters bs cs → Between low at cs → at - low < 2 ^ 40 → length (node_at_place q cs at) ≤ 9 + 6 * branches bs
 node_short q bs cs low at short a s between close =
     let parts : Parts = record { payload = q; children = map (seen_from at) cs } in
     let n : length parts.children ≡ branches bs = length-map cs (seen_from at) ∙ n_children bs cs s in
@@ -40,7 +40,7 @@ last_unplaced low end a = omega arith
 last_unplaced low (branch b t end) a = omega (arith, a.1)
 last_unplaced low (branch b t (branch b' t' bs)) a = last_unplaced (b + 1) (branch b' t' bs) a.2
 
-few_branches : (low : ℕ) (bs : Branches) → low ≤ 256 → Ascend low bs → low + branches bs ≤ 256
+pub few_branches : (low : ℕ) (bs : Branches) → low ≤ 256 → Ascend low bs → low + branches bs ≤ 256
 few_branches low end l a = omega arith
 few_branches low (branch b t bs) l a = let h = few_branches (b + 1) bs (omega (arith, a.1)) a.2 in omega (arith, h, a.0)
 
@@ -73,7 +73,7 @@ gap_by : (b : Bool) (p n : ℕ) → nat_lt 4096 (p % 4096 + n) ≡ b → (if b t
 gap_by true p n e = grind (arith, nat_tests)
 gap_by false p n e = omega arith
 
-gap_small : (p n : ℕ) → gap p n ≤ n
+pub gap_small : (p n : ℕ) → gap p n ≤ n
 gap_small p n = gap_by (nat_lt 4096 (p % 4096 + n)) p n refl
 
 chosen_len : (b : Bool) (x y : Laid) (n : ℕ) → (b ≡ true → length x.bytes ≤ n) → length y.bytes ≤ n → length (if b then x else y).bytes ≤ n
@@ -85,7 +85,7 @@ room_root true x y p a c = a
 room_root false x y p a c = c
 
 mutual
-  lay_root : (t : Tree) (p : ℕ) → (p ≤ (lay t p).root) × ((lay t p).root < p + length (lay t p).bytes)
+  pub lay_root : (t : Tree) (p : ℕ) → (p ≤ (lay t p).root) × ((lay t p).root < p + length (lay t p).bytes)
   lay_root (tree q bs) p =
       let t = tree q bs in
       let room = gap p (weight t) in
@@ -146,7 +146,7 @@ mutual
       let c = lay_under_len bs (p + length first.bytes) s.2 (omega arith) in
       omega (arith, a, c, length-append first.bytes rest.bytes, weight_count t s.0)
 
-path_count : (k p : List ℕ) → count (path k p) ≡ length k + 1
+pub path_count : (k p : List ℕ) → count (path k p) ≡ length k + 1
 path_count [] p = omega arith
 path_count (b ∷ k) p = let h = path_count k p in omega (arith, h)
 
@@ -155,7 +155,7 @@ one_branch true c d t u v n h k = omega (arith, h)
 one_branch false c d t u v n h k = omega (arith, k)
 
 mutual
-  key_count : (t : Tree) (k p : List ℕ) → count (with_key t k p) ≤ count t + length k
+  pub key_count : (t : Tree) (k p : List ℕ) → count (with_key t k p) ≤ count t + length k
   key_count (tree q bs) [] p = omega arith
   key_count (tree q bs) (b ∷ k) p = let h = branch_count bs b k p in omega (arith, h)
 

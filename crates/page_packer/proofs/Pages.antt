@@ -137,10 +137,10 @@ mutual
       (omega arith, omega (arith, length-append under.bytes (node_at_place q under.children at), node_some q under.children at))
 
 -- a part of what lies in a page
-part_first : (p n m : ℕ) → p % 4096 + (n + m) ≤ 4096 → p % 4096 + n ≤ 4096
+pub part_first : (p n m : ℕ) → p % 4096 + (n + m) ≤ 4096 → p % 4096 + n ≤ 4096
 part_first p n m h = omega arith
 
-part_rest : (p n m : ℕ) → p % 4096 + (n + m) ≤ 4096 → (p + n) % 4096 + m ≤ 4096
+pub part_rest : (p n m : ℕ) → p % 4096 + (n + m) ≤ 4096 → (p + n) % 4096 + m ≤ 4096
 part_rest p n m h = omega arith
 
 mutual
@@ -190,7 +190,7 @@ behind_gap p n h = gap_by (nat_lt 4096 (p % 4096 + n)) p n refl h
 pub light_means : (t : Tree) → light t ≡ true → weight t ≤ 4096
 light_means t h = grind (arith, nat_tests)
 
-light_in_page : (t : Tree) (p : ℕ) → light t ≡ true → (p + gap p (weight t)) % 4096 + length (packed t (p + gap p (weight t))).bytes ≤ 4096
+pub light_in_page : (t : Tree) (p : ℕ) → light t ≡ true → (p + gap p (weight t)) % 4096 + length (packed t (p + gap p (weight t))).bytes ≤ 4096
 light_in_page t p h =
     let w = light_means t h in
     omega (arith, behind_gap p (weight t) w, packed_len t (p + gap p (weight t)) w)
@@ -243,7 +243,7 @@ none_at true at e = cc
 none_at false at e = omega arith
 
 -- a heavy node behind its room lies in one page
-node_in_page : (q : List ℕ) (cs : List Stood) (at : ℕ) → ((i : ℕ) → length (node_at_place q cs i) ≤ 4096) → (at + gap at (length (node_at_place q cs at))) % 4096 + length (node_at_place q cs (at + gap at (length (node_at_place q cs at)))) ≤ 4096
+pub node_in_page : (q : List ℕ) (cs : List Stood) (at : ℕ) → ((i : ℕ) → length (node_at_place q cs i) ≤ 4096) → (at + gap at (length (node_at_place q cs at))) % 4096 + length (node_at_place q cs (at + gap at (length (node_at_place q cs at)))) ≤ 4096
 node_in_page q cs at fits =
     let n = length (node_at_place q cs at) in
     let b = nat_lt 4096 (at % 4096 + n) in

@@ -7,3 +7,10 @@ pub mod Sound
 pub mod Pages
 pub mod Vectors
 pub mod Length
+pub mod Early
+pub mod Edge
+pub mod EdgeLaws
+pub mod Reading
+pub mod Levels
+pub mod Last
+pub mod Packs

@@ -3,7 +3,7 @@ ghost use Rattle.std.specs.Prelude.{◌≡◌, ◌≤◌, ◌+◌, ◌==◌, if�
 ghost use Rattle.bti_nodes.specs.Spelling.{bytes_in, outline_size, distant};
 ghost use Rattle.page_packer.specs.Tree.{path};
 ghost use Rattle.page_packer.specs.Sound.{Ascend, SoundUnder};
-ghost use Rattle.page_packer.specs.Boxes.{branches_of, and_last, with_path, EndsUnder, capped, IsWeighed, Sees};
+ghost use Rattle.page_packer.specs.Boxes.{branches_of, and_last, with_path, EndsUnder, capped, IsWeighed, IsKept, Sees};
 
 use bti_nodes::{Outline, Payload, outline_weight};
 use key_types::NoMemory;
@@ -18,12 +18,14 @@ pub enum Link {
     Last(Box<Branch>),
 }
 
-/// A branch and the node below it. Where no key ends, the payload is empty. The weight is that of the subtree, cut at 4,097.
+/// A branch and the node below it. Where no key ends, the payload is empty. The weight is that of the subtree, cut at
+/// 4,097; `so_far` is what is seen of this branch and those before it. Both are kept up but along the last branches.
 #[cycle(branches)]
 #[derive(Drop)]
 pub struct Branch {
     pub byte: u8,
     pub weight: u16,
+    pub so_far: Weighed,
     pub payload: Payload,
     pub children: Link,
     pub before: Link,
@@ -43,7 +45,9 @@ fn path(
     rest: &[u8],
     payload: Payload,
 ) -> Result<Link, NoMemory>
-    ensures { IfOk result (λ link. branches_of link ≡ and_last (branches_of before) byte (path rest.now (bytes_in payload))) }
+    requires { IsWeighed before }
+    ensures kept { IfOk result (λ link. IsKept link) }
+    ensures path { IfOk result (λ link. branches_of link ≡ and_last (branches_of before) byte (path rest.now (bytes_in payload))) }
 {
     let (payload, children) = match rest {
         [] => (payload, Link::End),
@@ -52,6 +56,7 @@ fn path(
     let branch = Branch {
         byte,
         weight: 0,
+        so_far: NOTHING,
         payload,
         children,
         before,
@@ -67,7 +72,9 @@ fn put_behind(
     rest: &[u8],
     payload: Payload,
 ) -> Result<(), NoMemory>
-    ensures { OnOk result (branches_of link.new ≡ and_last (branches_of link.old) byte (path rest.now (bytes_in payload))) }
+    requires { IsWeighed link.old }
+    ensures kept { OnOk result (IsKept link.new) }
+    ensures behind { OnOk result (branches_of link.new ≡ and_last (branches_of link.old) byte (path rest.now (bytes_in payload))) }
 {
     let before = mem::replace(link, Link::End);
     *link = path(alloc, before, byte, rest, payload)?;
@@ -76,7 +83,9 @@ fn put_behind(
 
 /// Adds a key that is above all others.
 pub fn add_key(alloc: Global, link: &mut Link, key: &[u8], payload: Payload) -> Result<(), NoMemory>
-    ensures { OnOk result (branches_of link.new ≡ with_path (branches_of link.old) key.now (bytes_in payload)) }
+    requires { IsWeighed link.old }
+    ensures kept { OnOk result (IsKept link.new) }
+    ensures added { OnOk result (branches_of link.new ≡ with_path (branches_of link.old) key.now (bytes_in payload)) }
 {
     let (byte, rest) = match key {
         [] => return Ok(()),
@@ -116,30 +125,47 @@ pub struct Weighed {
     pub outline: Outline,
 }
 
-/// Weighs the subtrees of branches.
+/// What is seen of no branches.
+const NOTHING: Weighed = Weighed {
+    weight: 0,
+    outline: Outline {
+        payload: 0,
+        count: 0,
+        first: 0,
+        last: 0,
+        greatest: 0,
+    },
+};
+
+/// What is seen of branches that are weighed.
+pub fn seen_of(link: &Link) -> Weighed
+    requires { IsWeighed link.now }
+    ensures { Sees result (branches_of link.now) }
+{
+    match link {
+        Link::End => NOTHING,
+        Link::Last(branch) => branch.so_far,
+    }
+}
+
+/// Weighs the subtrees of branches, along the last ones.
 pub fn weigh(link: &mut Link) -> Weighed
+    requires { IsKept link.old }
     ensures same { branches_of link.new ≡ branches_of link.old }
     ensures weighed { Ascend 0 (branches_of link.old) → SoundUnder (branches_of link.old) → IsWeighed link.new }
     ensures seen { Ascend 0 (branches_of link.old) → SoundUnder (branches_of link.old) → Sees result (branches_of link.old) }
 {
     match link {
-        Link::End => Weighed {
-            weight: 0,
-            outline: Outline {
-                payload: 0,
-                count: 0,
-                first: 0,
-                last: 0,
-                greatest: 0,
-            },
-        },
+        Link::End => NOTHING,
         Link::Last(branch) => {
             let branch: &mut Branch = branch;
             let below = weigh(&mut branch.children);
-            let before = weigh(&mut branch.before);
+            let before = seen_of(&branch.before);
             let weight = subtree_weight(below, &branch.payload);
+            let so_far = with_branch(before, branch.byte, weight);
             branch.weight = weight;
-            with_branch(before, branch.byte, weight)
+            branch.so_far = so_far;
+            so_far
         }
     }
 }
@@ -157,7 +183,7 @@ pub fn payload_bytes(payload: &Payload) -> &[u8]
 }
 
 /// The capped weight of a node with that payload above weighed branches.
-fn subtree_weight(below: Weighed, payload: &Payload) -> u16
+pub fn subtree_weight(below: Weighed, payload: &Payload) -> u16
     ensures { result ≡ capped (below.weight + outline_size (distant (record below.outline { payload = length (bytes_in payload.now) }))) }
 {
     let own = outline_weight(&Outline {

@@ -52,7 +52,7 @@ fn lay_light(branch: &Branch, start: u64, work: &mut Work) -> Result<(), NoMemor
 
 /// Appends the node whose children wait from `base` on behind all bytes, or into the next page where it would cross
 /// into it.
-fn close_in_page(
+pub fn close_in_page(
     byte: u8,
     payload: &[u8],
     base: usize,

@@ -45,7 +45,6 @@ fn is_below(a: &KeyBytes, b: &KeyBytes) -> bool
     a.cmp(b) == Ordering::Less
 }
 
-#[tactic(auto, using(crate::proofs::Entries::last_of_more, crate::proofs::Entries::bytes_of_more, crate::proofs::Entries::some_entries))]
 /// Packs so many keys; none where they don't ascend or are too long.
 fn pack(alloc: Global, count: u32, store: &mut MemStore) -> Result<Option<Packed>, PackError> {
     let mut packer = Packer::new(alloc, FILE, 0);

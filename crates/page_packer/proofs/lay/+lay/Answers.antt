@@ -11,7 +11,7 @@ use Rattle.page_packer.specs.Boxes.{branches_of, and_last, node_in, capped, coun
 use Rattle.page_packer.specs.Work.{closed_alone}
 use Rattle.page_packer.proofs.Pages.{laid_letters, node_within, wider}
 use Rattle.page_packer.proofs.Length.{lay_between}
-use Rattle.page_packer.proofs.Boxed.{on_ok}
+use Rattle.page_packer.proofs.Boxed.{on_ok, WeighedBox}
 use Rattle.page_packer.proofs.Joined.{all_before, node_fine}
 use Rattle.page_packer.proofs.Laid.{kids_are, laid_more, laid_short, heavy_closed, on_both}
 use Rattle.page_packer.proofs.lay.+lay.Goals as goal
@@ -24,10 +24,6 @@ abbrev SoundBox : Branch → Type 0
 SoundBox b =
     (length (bytes_in b.payload) ≤ 7) × Ascend 0 (branches_of b.children) × SoundUnder (branches_of b.children) × (0 < length (bytes_in b.payload) + length (letters (branches_of b.children)))
     × IsSoundLink b.children × IsSoundLink b.before
-
--- a box that was weighed
-abbrev WeighedBox : Branch → Type 0
-WeighedBox b = (b.weight ≡ capped (weight (node_in b))) × IsWeighed b.children × IsWeighed b.before
 
 abbrev count_box : Branch → ℕ
 count_box b = count_in b.before + (count_in b.children + 1)
