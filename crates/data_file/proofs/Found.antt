@@ -12,7 +12,8 @@ use Rattle.data_file.specs.declared.reading.RowAt.{RowAt}
 use Rattle.data_file.specs.declared.reading.RowAt.TheVariants.{Row, End}
 use Rattle.data_file.specs.declared.reading.DataError.{DataError}
 use Rattle.data_file.specs.declared.reading.DataError.TheVariants.{StoreFault, Damaged, NoMemory}
-use Rattle.data_file.specs.Listing.{counted, head_bytes, row_bytes, static_bytes}
+use Rattle.length_prefix.specs.Counted.{counted}
+use Rattle.data_file.specs.Listing.{head_bytes, row_bytes, static_bytes}
 use Rattle.data_file.specs.Reading.{IsFixedAt, IsRowAt, NoFixed, NoHead, NoRow}
 use Rattle.data_file.specs.Held.{IsFront, IsRest}
 use Rattle.data_file.specs.Answers.{IsHead, IsRowOrEnd, IsStaticPart, IsStop, damage_at}

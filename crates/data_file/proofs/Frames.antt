@@ -1,21 +1,22 @@
 -- What the parts of a row say of its frame.
-use Rattle.std.proofs.Common.{◌≡◌, ◌∙◌, ℕ, ◌+◌, ◌<◌, ◌≤◌, ◌^◌, List, ◌∷◌, ◌++◌, length, Option, None, Some, IfSome, arith, ap, sym, subst, append_assoc, length-append}
+use Rattle.std.proofs.Common.{◌≡◌, ◌∙◌, ℕ, ◌<◌, ◌≤◌, ◌^◌, List, ◌∷◌, ◌++◌, length, Option, None, Some, IfSome, arith, ap, sym, subst, append_assoc}
 use Rattle.key_types.specs.Columns.{Columns, IsValueOf}
 use Rattle.key_types.specs.declared.schema.ValueType.{ValueType}
 use Rattle.key_types.specs.declared.schema.ValueType.TheVariants.{Text, Blob}
 use Rattle.key_decode.specs.Strings.{IsStringOf}
-use Rattle.data_file.specs.Listing.{counted, row_bytes, IsFixed, IsRow}
+use Rattle.length_prefix.specs.Counted.{counted, IsCutOff}
+use Rattle.length_prefix.proofs.Counts.{counted-same, not_cut_off}
+use Rattle.data_file.specs.Listing.{row_bytes, IsFixed, IsRow}
 use Rattle.data_file.specs.Reading.{BeginsEnd, BeginsRow, NoFixed, NoHead, NoRow}
-use Rattle.data_file.specs.Parsing.{IsCutOff, IsFixedFrame, IsFrame, NoFixedFrame, NoFrame}
-use Rattle.data_file.proofs.Counted.{behind_first, counted-same, row-same}
+use Rattle.data_file.specs.Parsing.{IsFixedFrame, IsFrame, NoFixedFrame, NoFrame}
+use Rattle.data_file.proofs.Counted.{behind_first, row-same}
 use Rattle.key_decode.proofs.Known.{string_length}
 
 -- ---- heads
 
 pub no_head_cut : (columns : Columns) (bytes : List ℕ) → IsCutOff bytes → NoHead columns bytes
 no_head_cut columns bytes cut key (is, (rest, e)) =
-    let short = string_length columns.partition key is in
-    cut key rest (omega arith) e
+    not_cut_off bytes key rest cut e
 
 pub no_head_else : (columns : Columns) (bytes key rest : List ℕ) → bytes ≡ counted key ++ rest → (IsStringOf columns.partition key → ⊥) → NoHead columns bytes
 no_head_else columns bytes key rest at not other (is, (more, e)) =
@@ -29,24 +30,8 @@ pub framed : (bytes c rest v more : List ℕ) → length c < 2 ^ 16 → bytes �
 framed bytes c rest v more m e n f =
     (m, n, (more, ap (λ t. 1 ∷ t) (e ∙ ap (λ t. counted c ++ t) f) ∙ sym (behind_first c v more)))
 
--- behind the first byte of a row whose frame is at the front
-behind : (bytes c v rest : List ℕ) → 1 ∷ bytes ≡ row_bytes c v ++ rest → bytes ≡ counted c ++ (counted v ++ rest)
-behind bytes c v rest e = let both : 1 ∷ bytes ≡ 1 ∷ (counted c ++ (counted v ++ rest)) = e ∙ behind_first c v rest in cc
-
 no_end : (bytes : List ℕ) → BeginsEnd (1 ∷ bytes) → ⊥
 no_end bytes (rest, e) = cc
-
-pub short_first : (bytes : List ℕ) → IsCutOff bytes × (length bytes < 65537) → NoFrame (1 ∷ bytes) × (length bytes < 66563)
-short_first bytes (cut, n) = ((λ c v m (k, l, (rest, e)). cut c (counted v ++ rest) k (behind bytes c v rest e), no_end bytes), omega arith)
-
-pub short_second : (bytes c rest : List ℕ) → bytes ≡ counted c ++ rest → length c ≤ 1024 → IsCutOff rest × (length rest < 65537)
-    → NoFrame (1 ∷ bytes) × (length bytes < 66563)
-short_second bytes c rest at m (cut, n) =
-    let long : length bytes ≡ length (counted c ++ rest) = ap length at in
-    let parts : length (c ++ rest) ≡ length c + length rest = length-append c rest in (
-      (λ d v k (l, o, (more, e)). cut v more o (counted-same c d rest (counted v ++ more) (sym at ∙ behind bytes d v more e)).1, no_end bytes),
-      omega arith,
-    )
 
 -- ---- rows
 
@@ -70,9 +55,6 @@ no_row_else columns bytes c v (k, l, (rest, at)) not more =
           not (subst (λ (x : List ℕ). IsRow columns x v) (sym same.0) (subst (λ (x : List ℕ). IsRow columns d x) (sym same.1) is)),
       λ (behind, e). no_end _ (behind, sym (all ∙ behind_first c v (rest ++ more)) ∙ e),
     )
-
-pub frame_short : (bytes rest : List ℕ) → bytes ≡ 1 ∷ rest → NoFrame (1 ∷ rest) × (length rest < 66563) → NoFrame bytes × (length bytes < 66564)
-frame_short bytes rest e (none, n) = (subst NoFrame (sym e) none, (let long : length bytes ≡ length (1 ∷ rest) = ap length e in omega arith))
 
 pub frame_bad : (bytes rest more : List ℕ) → bytes ≡ 1 ∷ rest → NoFrame (1 ∷ (rest ++ more)) → NoFrame (bytes ++ more)
 frame_bad bytes rest more e none = subst NoFrame (sym (ap (λ t. t ++ more) e)) none

@@ -1,5 +1,6 @@
 pub mod Counted
 pub mod Found
+mod Cuts
 mod Frames
 mod Pages
 mod Puts

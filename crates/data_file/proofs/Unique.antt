@@ -2,8 +2,10 @@
 use Rattle.std.proofs.Common.{◌≡◌, ◌∙◌, ℕ, List, [], ◌∷◌, ◌++◌, Option, None, Some, refl, sym, ap, append_assoc}
 use Rattle.key_types.specs.Columns.{Columns}
 use Rattle.key_types.specs.declared.schema.ValueType.{ValueType}
-use Rattle.data_file.specs.Listing.{ArePartitions, IsFixed, Lists, Partition, Row, counted, data_bytes, end_bytes, fixed_bytes, partition_bytes, row_bytes, rows_bytes}
-use Rattle.data_file.proofs.Counted.{behind_first, counted-same}
+use Rattle.data_file.specs.Listing.{ArePartitions, IsFixed, Lists, Partition, Row, data_bytes, end_bytes, fixed_bytes, partition_bytes, row_bytes, rows_bytes}
+use Rattle.length_prefix.specs.Counted.{counted}
+use Rattle.length_prefix.proofs.Counts.{counted-same}
+use Rattle.data_file.proofs.Counted.{behind_first}
 
 pub row_front : (c v r d w s : List ℕ) → row_bytes c v ++ r ≡ row_bytes d w ++ s → (c ≡ d) × (v ≡ w) × (r ≡ s)
 row_front c v r d w s e =

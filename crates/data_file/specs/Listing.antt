@@ -1,5 +1,6 @@
 -- The bytes of a data file, and the partitions and rows that they list. The layout is this project's own.
-use Rattle.std.specs.Prelude.{◌≡◌, ℕ, ◌/◌, ◌%◌, List, [], ◌∷◌, ◌++◌, length, Option, None, Some}
+use Rattle.std.specs.Prelude.{◌≡◌, ℕ, List, [], ◌∷◌, ◌++◌, length, Option, None, Some}
+use Rattle.length_prefix.specs.Counted.{counted}
 use Rattle.key_types.specs.Columns.{Columns, IsValueOf}
 use Rattle.key_types.specs.declared.schema.ValueType.{ValueType}
 use Rattle.key_decode.specs.Strings.{IsStringOf}
@@ -16,10 +17,6 @@ pub record Partition : Type 0 where
   pub rows : List Row
 
 -- ---- how they are spelled
-
--- the number of the bytes in two bytes, the high one first, and the bytes
-abbrev pub counted : List ℕ → List ℕ
-counted bytes = length bytes / 256 ∷ length bytes % 256 ∷ bytes
 
 -- the head of a partition
 abbrev pub head_bytes : List ℕ → List ℕ

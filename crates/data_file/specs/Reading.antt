@@ -1,6 +1,7 @@
 -- What begins at a place of a data file.
-use Rattle.std.specs.Prelude.{◌≡◌, ℕ, ◌+◌, List, ◌∷◌, ◌++◌, length, Option}
+use Rattle.std.specs.Prelude.{◌≡◌, ◌≢◌, ℕ, ◌+◌, ◌<◌, ◌≤◌, ◌^◌, List, [], ◌∷◌, ◌++◌, length, Option, Some}
 use Rattle.key_types.specs.Columns.{Columns}
+use Rattle.byte_comparable.specs.Strings.{longest_string}
 use Rattle.key_decode.specs.Strings.{IsStringOf}
 use Rattle.data_file.specs.Listing.{head_bytes, row_bytes, static_bytes, IsFixed, IsRow}
 use Rattle.data_file.specs.declared.reading.Head.{Head}
@@ -35,6 +36,28 @@ NoRow columns bytes = ((clustering value : List ℕ) → BeginsRow columns bytes
 -- no static part begins here
 abbrev pub NoFixed : Columns → List ℕ → Type 0
 NoFixed columns bytes = (value : Option (List ℕ)) → BeginsFixed columns bytes value → ⊥
+
+-- ---- bytes that are cut off
+
+-- the bytes are the beginning of a row, as far as its lengths say, and there is more of it; that of the clustering is at most 1,024 where both its bytes stand there
+pub record IsCutRow (bytes : List ℕ) : Type 0 where
+  pub clustering : List ℕ
+  pub value : List ℕ
+  pub more : List ℕ
+  pub short : 3 ≤ length bytes → length clustering ≤ longest_string
+  pub counts : (length clustering < 2 ^ 16) × (length value < 2 ^ 16)
+  pub cut : more ≢ []
+  pub row : row_bytes clustering value ≡ bytes ++ more
+
+-- the bytes are the beginning of a static part, as far as its length says, and there is more of it
+pub record IsCutStatic (bytes : List ℕ) : Type 0 where
+  pub value : List ℕ
+  pub more : List ℕ
+  pub counts : length value < 2 ^ 16
+  pub cut : more ≢ []
+  pub part : static_bytes (Some value) ≡ bytes ++ more
+
+-- ---- where it stands
 
 -- the head that begins where these bytes stand, at a place of the file: its string, and the place behind it
 abbrev pub IsHeadAt : Columns → List ℕ → ℕ → Head → Type 0

@@ -1,19 +1,21 @@
-//! Static parts, in the data file of a table with a static type.
-ghost use Rattle.std.specs.Prelude.{◌≡◌, ◌<◌, ◌+◌, ◌++◌, ◌^◌, List, ℕ, length, IfOk, IsSome, MatchOption, None, Some, Err};
+//! Static parts, in the data file of a table with a static type: what begins with some bytes behind a head. The readers of
+//! files call these; they say the same whatever follows the bytes.
+ghost use Rattle.std.specs.Prelude.{◌≡◌, ◌↔◌, ◌<◌, ◌+◌, ◌++◌, ◌^◌, List, ℕ, length, IfOk, IsSome, MatchOption, None, Some, Err};
 ghost use Rattle.key_types.specs.Columns.{columns_of};
-ghost use Rattle.data_file.specs.Reading.{BeginsFixed, IsFixedAt, NoFixed};
+ghost use Rattle.data_file.specs.Reading.{BeginsFixed, IsCutStatic, IsFixedAt, NoFixed};
 ghost use Rattle.data_file.specs.Parsing.{IsFixedFrame, NoFixedFrame};
 
-use crate::parse::{ParseRow, counted};
+use crate::parse::ParseRow;
 use crate::reading::Fixed;
 use crate::strings::is_value;
 use key_types::{ByteList, NoMemory, Schema, ValueBytes};
+use length_prefix::counted;
 use std::alloc::Global;
 
 /// The static value of the static part that the bytes begin with, as far as its length says; `None` where it has none.
 fn frame(bytes: &[u8]) -> Result<Option<&[u8]>, ParseRow>
     ensures part { IfOk result (λ found. MatchOption found (IsFixedFrame bytes.now None) (λ value. IsFixedFrame bytes.now (Some value.now))) }
-    ensures short { result ≡ Err ParseRow.Short → NoFixedFrame bytes.now × (length bytes.now < 65538) }
+    ensures short { result ≡ Err ParseRow.Short ↔ IsCutStatic bytes.now }
     ensures bad { result ≡ Err ParseRow.Bad → (more : List ℕ) → NoFixedFrame (bytes.now ++ more) }
     ensures memory { ¬ (result ≡ Err ParseRow.NoMemory) }
 {
@@ -34,6 +36,7 @@ pub fn fixed_in<'b>(schema: &Schema, bytes: &'b [u8]) -> Result<Option<&'b [u8]>
     requires { IsSome schema.now.static_value }
     ensures part { IfOk result (λ found. MatchOption found (BeginsFixed (columns_of schema.now) bytes.now None)
         (λ value. BeginsFixed (columns_of schema.now) bytes.now (Some value.now))) }
+    ensures cut { result ≡ Err ParseRow.Short ↔ IsCutStatic bytes.now }
     ensures short { result ≡ Err ParseRow.Short → NoFixed (columns_of schema.now) bytes.now × (length bytes.now < 65538) }
     ensures bad { result ≡ Err ParseRow.Bad → (more : List ℕ) → NoFixed (columns_of schema.now) (bytes.now ++ more) }
     ensures memory { ¬ (result ≡ Err ParseRow.NoMemory) }
@@ -53,6 +56,7 @@ pub fn parse_fixed(alloc: Global, schema: &Schema, bytes: &[u8], at: u64) -> Res
     requires fixed { IsSome schema.now.static_value }
     requires place { at < 2 ^ 62 }
     ensures part { IfOk result (IsFixedAt (columns_of schema.now) bytes.now at) }
+    ensures cut { result ≡ Err ParseRow.Short ↔ IsCutStatic bytes.now }
     ensures short { result ≡ Err ParseRow.Short → NoFixed (columns_of schema.now) bytes.now × (length bytes.now < 65538) }
     ensures bad { result ≡ Err ParseRow.Bad → (more : List ℕ) → NoFixed (columns_of schema.now) (bytes.now ++ more) }
 {

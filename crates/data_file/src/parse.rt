@@ -1,23 +1,30 @@
-ghost use Rattle.std.specs.Prelude.{◌≡◌, ◌<◌, ◌≤◌, ◌+◌, ◌++◌, ◌^◌, List, ℕ, length, IfOk, IfSome, IsNone, MatchOption, Err, ◌∷◌, true, false};
+//! What begins with some bytes of a data file: a head, a row or an end. The readers of files, and whoever holds a page of
+//! one, call these; they take no memory but for a row that is handed out, and say the same whatever follows the bytes.
+ghost use Rattle.std.specs.Prelude.{◌≡◌, ◌↔◌, ◌<◌, ◌≤◌, ◌+◌, ◌++◌, ◌^◌, List, ℕ, length, IfOk, IfSome, IsNone, MatchOption, Err, ◌∷◌};
 ghost use Rattle.key_types.specs.Columns.{columns_of};
-ghost use Rattle.data_file.specs.Listing.{counted};
-ghost use Rattle.data_file.specs.Reading.{BeginsEnd, BeginsHead, BeginsRow, IsRowAt, NoHead, NoRow};
-ghost use Rattle.data_file.specs.Parsing.{IsCutOff, IsFrame, NoFrame};
+ghost use Rattle.length_prefix.specs.Counted.{count_in};
+ghost use Rattle.data_file.specs.Reading.{BeginsEnd, BeginsHead, BeginsRow, IsCutRow, IsRowAt, NoHead, NoRow};
+ghost use Rattle.data_file.specs.Parsing.{IsFrame, NoFrame, counts_too_many};
 
 use crate::reading::{DataRow, RowAt};
 use crate::strings::is_row;
+use byte_comparable::LONGEST_STRING;
 use key_decode::is_partition_string;
 use key_types::{ByteList, NoMemory, Schema};
+use length_prefix::{count_in, counted};
 use std::alloc::Global;
 
 /// Why bytes of a data file were not read as a row or an end.
-#[derive(Clone, Copy, Debug, PartialEq, Eq)]
+#[derive(Clone, Copy, Debug, PartialEq, Eq, thiserror::Error)]
 pub enum ParseRow {
-    /// There are too few bytes to tell.
+    /// The lengths that stand there ask for more bytes than are given.
+    #[error("the bytes are cut off")]
     Short,
     /// Whatever bytes follow, no row and no end of a partition begins here.
+    #[error("neither a row nor an end of a partition")]
     Bad,
     /// Memory ran out.
+    #[error("out of memory")]
     NoMemory,
 }
 
@@ -29,24 +36,6 @@ impl From<NoMemory> for ParseRow {
 
     fn from(_e: NoMemory) -> ParseRow {
         ParseRow::NoMemory
-    }
-}
-
-/// The bytes that a number in two bytes counts, and what stands behind them; `None` where they are cut off.
-pub fn counted(bytes: &[u8]) -> Option<(&[u8], &[u8])>
-    ensures some { IfSome result (λ p. (length p.0.now < 2 ^ 16) × (bytes.now ≡ counted p.0.now ++ p.1.now)) }
-    ensures none { IsNone result → IsCutOff bytes.now × (length bytes.now < 65537) }
-{
-    match bytes {
-        [high, low, rest @ ..] => {
-            let count = usize::from(*high) * 256 + usize::from(*low);
-            if count <= rest.len() {
-                Some(rest.split_at(count))
-            } else {
-                None
-            }
-        }
-        _ => None,
     }
 }
 
@@ -64,19 +53,18 @@ pub fn head_in<'b>(schema: &Schema, bytes: &'b [u8]) -> Option<&'b [u8]>
 
 /// Whether the bytes begin with a count of more than 1,024 bytes.
 fn counts_too_many(bytes: &[u8]) -> bool
-    ensures long { result ≡ true → (item rest more : List ℕ) → length item ≤ 1024 → bytes.now ++ more ≡ counted item ++ rest → ⊥ }
-    ensures fits { result ≡ false → (item rest : List ℕ) → bytes.now ≡ counted item ++ rest → length item ≤ 1024 }
+    ensures { result ≡ counts_too_many (count_in bytes.now) }
 {
-    match bytes {
-        [high, low, ..] => usize::from(*high) * 256 + usize::from(*low) > 1024,
-        _ => false,
+    match count_in(bytes) {
+        Some(count) => count > LONGEST_STRING,
+        None => false,
     }
 }
 
 /// The clustering and the value of a row, behind its first byte.
 fn row_frame(bytes: &[u8]) -> Result<(&[u8], &[u8]), ParseRow>
     ensures row { IfOk result (λ p. IsFrame (1 ∷ bytes.now) p.0.now p.1.now) }
-    ensures short { result ≡ Err ParseRow.Short → NoFrame (1 ∷ bytes.now) × (length bytes.now < 66563) }
+    ensures short { result ≡ Err ParseRow.Short ↔ IsCutRow (1 ∷ bytes.now) }
     ensures bad { result ≡ Err ParseRow.Bad → (more : List ℕ) → NoFrame (1 ∷ (bytes.now ++ more)) }
     ensures memory { ¬ (result ≡ Err ParseRow.NoMemory) }
 {
@@ -95,7 +83,7 @@ fn row_frame(bytes: &[u8]) -> Result<(&[u8], &[u8]), ParseRow>
 /// The clustering and the value of the row that the bytes begin with, as far as their lengths say; `None` for an end.
 fn frame(bytes: &[u8]) -> Result<Option<(&[u8], &[u8])>, ParseRow>
     ensures row { IfOk result (λ found. MatchOption found (BeginsEnd bytes.now) (λ p. IsFrame bytes.now p.0.now p.1.now)) }
-    ensures short { result ≡ Err ParseRow.Short → NoFrame bytes.now × (length bytes.now < 66564) }
+    ensures short { result ≡ Err ParseRow.Short ↔ IsCutRow bytes.now }
     ensures bad { result ≡ Err ParseRow.Bad → (more : List ℕ) → NoFrame (bytes.now ++ more) }
     ensures memory { ¬ (result ≡ Err ParseRow.NoMemory) }
 {
@@ -124,6 +112,7 @@ pub struct RowParts<'b> {
 pub fn row_in<'b>(schema: &Schema, bytes: &'b [u8]) -> Result<Option<RowParts<'b>>, ParseRow>
     ensures row { IfOk result (λ found. MatchOption found (BeginsEnd bytes.now)
         (λ row. BeginsRow (columns_of schema.now) bytes.now row.clustering.now row.value.now)) }
+    ensures cut { result ≡ Err ParseRow.Short ↔ IsCutRow bytes.now }
     ensures short { result ≡ Err ParseRow.Short → NoRow (columns_of schema.now) bytes.now × (length bytes.now < 66564) }
     ensures bad { result ≡ Err ParseRow.Bad → (more : List ℕ) → NoRow (columns_of schema.now) (bytes.now ++ more) }
     ensures memory { ¬ (result ≡ Err ParseRow.NoMemory) }
@@ -145,6 +134,7 @@ pub fn row_in<'b>(schema: &Schema, bytes: &'b [u8]) -> Result<Option<RowParts<'b
 pub fn parse_row(alloc: Global, schema: &Schema, bytes: &[u8], at: u64) -> Result<RowAt, ParseRow>
     requires place { at < 2 ^ 62 }
     ensures row { IfOk result (IsRowAt (columns_of schema.now) bytes.now at) }
+    ensures cut { result ≡ Err ParseRow.Short ↔ IsCutRow bytes.now }
     ensures short { result ≡ Err ParseRow.Short → NoRow (columns_of schema.now) bytes.now × (length bytes.now < 66564) }
     ensures bad { result ≡ Err ParseRow.Bad → (more : List ℕ) → NoRow (columns_of schema.now) (bytes.now ++ more) }
 {

@@ -1,3 +1,4 @@
+//! Heads, static parts and rows at a place of a file, read in pages of 4,096 bytes, each of which is one read of the store.
 ghost use Rattle.std.specs.Prelude.{◌≡◌, ◌<◌, ◌≤◌, ◌+◌, ◌^◌, length, drop, ◌++◌, IfErr, IfOk, IfSome, IsNone, IsSome, IsTrue, ◌⊎◌, Err, List, ℕ};
 ghost use Rattle.outside.specs.Causes.{Rose};
 ghost use Rattle.outside.specs.Files.{bytes_of};
@@ -42,13 +43,16 @@ pub enum RowAt {
 }
 
 /// Why a data file was not read.
-#[derive(Clone, Copy, Debug, PartialEq, Eq)]
+#[derive(Clone, Copy, Debug, PartialEq, Eq, thiserror::Error)]
 pub enum DataError {
     /// The store failed.
+    #[error("the store failed")]
     StoreFault,
     /// The file is not one of a table.
+    #[error("the data file is damaged")]
     Damaged(Damage),
     /// Memory ran out.
+    #[error("out of memory")]
     NoMemory,
 }
 
@@ -74,6 +78,9 @@ impl From<NoMemory> for DataError {
     }
 }
 
+/// How many bytes one read of the store asks for.
+const PAGE: usize = 4096;
+
 /// Puts the next 4,096 bytes of the file behind those that are held from `at` on, and answers whether the file ended.
 fn read_more<K: Store>(
     file: FileId,
@@ -93,10 +100,10 @@ fn read_more<K: Store>(
     ensures later { K.faults store.old ≤ K.faults store.new }
     ensures fault { result ≡ Err DataError.StoreFault → Rose (K.faults store.old) (K.faults store.new) }
 {
-    let mut page = [0u8; 4096];
+    let mut page = [0u8; PAGE];
     let count = store.read(file, at + held.len() as u64, &mut page)?;
     held.extend(&page[..count])?;
-    Ok(count < 4096)
+    Ok(count < PAGE)
 }
 
 fn damaged(at: u64, cause: Cause) -> DataError

@@ -1,3 +1,4 @@
+//! Rows of the writer and the readers.
 ghost use Rattle.std.specs.Prelude.{IfOk, IsSome};
 
 use super::*;
@@ -176,5 +177,26 @@ fn static_parts_are_read(rt: HostRuntime) -> Result<(), TestFail> {
     assert_eq!(rt; fixed_in(&schema, &[1, 0, 2, 0x73]), Err(ParseRow::Short));
     assert_eq!(rt; fixed_in(&schema, &[1, 0, 1, 0xFF]), Err(ParseRow::Bad));
     assert_eq!(rt; fixed_in(&schema, &[0]), Ok(None));
+    Ok(())
+}
+
+#[test]
+fn rows_are_cut_off_or_bad(rt: HostRuntime) -> Result<(), TestFail> {
+    let schema = int_schema(rt.alloc())?;
+    for (bytes, want) in [
+        (b"".as_slice(), ParseRow::Short),
+        (&[7], ParseRow::Bad),
+        (&[1, 5], ParseRow::Short),
+        (&[1, 4, 1], ParseRow::Bad),
+        (&[1, 0, 2, 0x39], ParseRow::Short),
+        (&[1, 0, 1, 0x38, 0, 2, b'a'], ParseRow::Short),
+        (&[1, 0, 1, 0x39, 0, 0], ParseRow::Bad),
+        (&[1, 0, 1, 0x38, 0, 1, 0xFF], ParseRow::Bad),
+    ] {
+        assert!(rt;
+            row_in(&schema, bytes).is_err_and(|e| e == want),
+            "{bytes:?}"
+        );
+    }
     Ok(())
 }

@@ -1,10 +1,14 @@
+//! The writer of data files: it is given partitions with their rows in order, holds their bytes back, and appends them in
+//! large pieces.
 ghost use Rattle.std.specs.Prelude.{◌≡◌, ◌<◌, ◌≤◌, ◌+◌, ◌++◌, ◌∷◌, ◌^◌, [], length, IfOk, IfSome, OnOk, option_copied, Err};
 ghost use Rattle.outside.specs.Causes.{Rose};
-ghost use Rattle.data_file.specs.Listing.{counted, end_bytes, head_bytes, row_bytes, static_bytes};
+ghost use Rattle.byte_comparable.specs.Strings.{longest_string};
+ghost use Rattle.data_file.specs.Listing.{end_bytes, head_bytes, row_bytes, static_bytes};
 ghost use Rattle.data_file.specs.Writing.{Finishes, Puts};
 
 use bti_nodes::PackError;
 use key_types::{ByteList, NoMemory};
+use length_prefix::put_counted;
 use outside::{FileId, Store};
 use std::alloc::Global;
 use std::marker::Model;
@@ -59,7 +63,7 @@ impl DataWriter {
 
     /// Begins the partition with this string, and answers its position.
     pub fn open_partition<K: Store>(&mut self, key: &[u8], store: &mut K) -> Result<u64, PackError>
-        requires key { length key.now ≤ 1024 }
+        requires key { length key.now ≤ longest_string }
         requires place { self.old.position < 2 ^ 60 }
         ensures at { IfOk result (λ at. at ≡ self.old.position) }
         ensures position { OnOk result (self.new.position ≡ self.old.position + length (head_bytes key.now)) }
@@ -103,7 +107,7 @@ impl DataWriter {
         value: &[u8],
         store: &mut K,
     ) -> Result<u64, PackError>
-        requires clustering { length clustering.now ≤ 1024 }
+        requires clustering { length clustering.now ≤ longest_string }
         requires value { length value.now < 2 ^ 16 }
         requires place { self.old.position < 2 ^ 60 }
         ensures behind { IfOk result (λ behind. behind ≡ self.old.position + length (row_bytes clustering.now value.now)) }
@@ -146,16 +150,6 @@ impl DataWriter {
         store.append(self.file, self.pending.as_slice())?;
         Ok(())
     }
-}
-
-/// Puts the bytes behind a count of them in two bytes, the high one first.
-fn put_counted(out: &mut ByteList, bytes: &[u8]) -> Result<(), NoMemory>
-    requires { length bytes.now < 2 ^ 16 }
-    ensures { OnOk result (out.new ≡ out.old ++ counted bytes.now) }
-{
-    let count = bytes.len();
-    out.extend(&[(count / 256) as u8, (count % 256) as u8])?;
-    out.extend(bytes)
 }
 
 fn put_row(out: &mut ByteList, clustering: &[u8], value: &[u8]) -> Result<(), NoMemory>

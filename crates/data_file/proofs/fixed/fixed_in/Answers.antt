@@ -2,6 +2,7 @@ use Rattle.std.proofs.Common.{◌≡◌, Err, Some, ap, rules}
 use Rattle.data_file.specs.Parsing.{IsFixedFrame}
 use Rattle.key_types.specs.Columns.{columns_of}
 use Rattle.data_file.specs.declared.parse.ParseRow.TheVariants.{Bad, Short}
+use Rattle.data_file.proofs.Cuts.{cut_static_none}
 use Rattle.data_file.proofs.Frames.{no_fixed, no_fixed_else}
 use Rattle.data_file.proofs.fixed.fixed_in.Goals as goal
 
@@ -9,8 +10,7 @@ pub returns-in-Err-clause-short : goal.returns-in-Err-clause-short
 returns-in-Err-clause-short c =
     λ short.
     let same : c.in-Err.e ≡ Short = cc in
-    let told = c.in-Err.ensures.short (ap Err same) in
-    (no_fixed (columns_of c.args.schema.now) c.args.bytes.now told.0, told.1)
+    cut_static_none (columns_of c.args.schema.now) c.args.bytes.now (c.in-Err.ensures.short.0 (ap Err same))
 
 pub returns-in-Err-clause-bad : goal.returns-in-Err-clause-bad
 returns-in-Err-clause-bad c =

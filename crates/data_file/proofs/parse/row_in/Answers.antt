@@ -1,5 +1,6 @@
 use Rattle.std.proofs.Common.{◌≡◌, Err, ap, rules}
 use Rattle.data_file.specs.declared.parse.ParseRow.TheVariants.{Bad, Short}
+use Rattle.data_file.proofs.Cuts.{cut_none}
 use Rattle.data_file.proofs.Frames.{no_row, no_row_else}
 use Rattle.data_file.proofs.parse.row_in.Goals as goal
 use Rattle.key_types.specs.Columns.{columns_of}
@@ -8,8 +9,7 @@ pub returns-in-Err-clause-short : goal.returns-in-Err-clause-short
 returns-in-Err-clause-short c =
     λ short.
     let same : c.in-Err.e ≡ Short = cc in
-    let told = c.in-Err.ensures.short (ap Err same) in
-    (no_row (columns_of c.args.schema.now) c.args.bytes.now told.0, told.1)
+    cut_none (columns_of c.args.schema.now) c.args.bytes.now (c.in-Err.ensures.short.0 (ap Err same))
 
 pub returns-in-Err-clause-bad : goal.returns-in-Err-clause-bad
 returns-in-Err-clause-bad c =
