@@ -6,7 +6,8 @@ use Rattle.std.specs.Prelude.{IfSome}
 use Rattle.outside.specs.Causes.{Rose}
 use Rattle.outside.specs.Files.{Files, bytes_of}
 use Rattle.outside.specs.Told.{WhereTold}
-use Rattle.key_types.specs.Table.{Entry}
+use Rattle.std.specs.FinMap as map
+use Rattle.key_types.specs.Table.{Entry, Table}
 use Rattle.bti_nodes.specs.declared.damage.Damage.{Damage}
 use Rattle.table_tool.specs.declared.status.Status.{Status}
 use Rattle.table_tool.specs.declared.status.Status.TheVariants as status
@@ -14,22 +15,25 @@ use Rattle.table_tool.specs.declared.scan.Scan.{Scan}
 use Rattle.table_tool.specs.declared.scan.ScanError.{ScanError}
 use Rattle.table_tool.specs.declared.scan.ScanError.TheVariants as scan_error
 use Rattle.table_tool.specs.FaultLine.{fault_line}
-use Rattle.table_tool.specs.Outcome.{AppendsPrefix, IsOrNoMemory, Refuses, Says}
+use Rattle.table_tool.specs.Outcome.{AppendsPrefix, IsOrNoMemory, SaysRefusal, Says}
 use Rattle.table_tool.specs.Printed.{count_line, entry_lines, rows_text}
-use Rattle.table_tool.specs.Scanned.{Holding, IsEither, IsPart, Prints, Scanned}
-use Rattle.table_tool.specs.Scanning.{EndsScan, IsShown, IsUnfinished, IsWhole, ScanEnds, ScanPrints, ScanWrites, Shown, all, cut, nothing, part, shown_text}
-use Rattle.table_tool.specs.Standing.{Holds, IsSchema, StandFor, data_id, entries_in, row_entries, schema_id}
+use Rattle.table_tool.specs.Scanned.{Holding, IsEither, IsPart, PrintsFiles, Scanned}
+use Rattle.table_tool.specs.Scanning.{EndsScan, IsShown, IsUnfinished, ScanEnds, ScanPrints, ScanWrites, Shown, all, cut, nothing, part, shown_text, IsOfScan}
 use Rattle.table_tool.specs.Entries.{row_count}
 use Rattle.table_tool.specs.Steps.{inside_of}
 use Rattle.key_types.specs.Columns.{Columns}
-use Rattle.data_file.specs.Listing.{AreRows, ArePartitions, Partition, Row, data_bytes, end_bytes, fixed_bytes, head_bytes, partition_bytes, row_bytes, rows_bytes}
-use Rattle.table_tool.specs.Walk.{Passes, Stops, Walks}
-use Rattle.table_tool.specs.Walk as walks
+use Rattle.table_files.specs.Walk.{Passes, Stops, Walks}
 use Rattle.table_tool.specs.Window.{Unread, Continues}
 use Rattle.table_tool.proofs.PrintedLemmas.{lines_append}
 use Rattle.table_tool.proofs.ScanLemmas.{cut_prefix}
-use Rattle.table_tool.proofs.SchemaLemmas.{one_schema}
+use Rattle.table_files.proofs.SchemaLemmas.{one_schema}
+use Rattle.table_files.proofs.WalkLemmas.{stands_walk}
+use Rattle.table_tool.specs.Outside.{FaultRose, Outside, SinkFails, StoreFails, outside_of}
 use Rattle.table_tool.proofs.Writes.{told_so, told_then}
+use Rattle.table_files.specs.Names.{data_id, schema_id}
+use Rattle.table_files.specs.SchemaFile.{IsSchemaFile, IsWholeSchemaFile}
+use Rattle.table_files.specs.Standing.{StandFor}
+use Rattle.table_tool.specs.First.{first_generation}
 
 -- a count that rose after a while rose
 pub earlier : (sink mid sink' : ℕ) → sink ≤ mid → Rose mid sink' → Rose sink sink'
@@ -75,7 +79,7 @@ nothing_written None sink = tt
 nothing_written (Some x) sink = (0, omega arith, sym (append-nil x))
 
 -- the status, or want of memory
-either : (expected result : Status) → IsOrNoMemory expected result → (result ≡ expected) ⊎ (result ≡ status.NoMemory)
+pub either : (expected result : Status) → IsOrNoMemory expected result → (result ≡ expected) ⊎ (result ≡ status.NoMemory)
 either expected status.NoMemory is = inr refl
 either expected status.Ok is = inl is
 either expected status.Usage is = inl is
@@ -90,24 +94,24 @@ either expected status.Exists is = inl is
 either expected status.TooLarge is = inl is
 
 module _ (files : Option Files) (a b : Option (List ℕ)) (sink sink' : ℕ) where
-  no_memory : WhereTold a b (λ x y. y ≡ x) → Prints files a b sink sink' status.NoMemory
+  no_memory : WhereTold a b (λ x y. y ≡ x) → PrintsFiles files a b sink sink' status.NoMemory
   no_memory told = (nothing, tt, nothing_shown files, told_so a b (λ x y. y ≡ x) (ScanWrites status.NoMemory [] sink sink') (λ x y e. (0, omega arith, e ∙ sym (append-nil x))) told)
 
   says_first : (line x y : List ℕ) → Says line sink sink' x y → Says line sink sink' (x ++ []) y
   says_first line x y says = subst (λ (s : List ℕ). Says line sink sink' s y) (sym (append-nil x)) says
 
-  no_store : WhereTold a b (Refuses status.StoreFault sink sink') → Prints files a b sink sink' status.StoreFault
-  no_store told = (nothing, tt, nothing_shown files, told_so a b (Refuses status.StoreFault sink sink') (ScanWrites status.StoreFault [] sink sink') (says_first (fault_line status.StoreFault)) told)
+  no_store : WhereTold a b (SaysRefusal status.StoreFault sink sink') → PrintsFiles files a b sink sink' status.StoreFault
+  no_store told = (nothing, tt, nothing_shown files, told_so a b (SaysRefusal status.StoreFault sink sink') (ScanWrites status.StoreFault [] sink sink') (says_first (fault_line status.StoreFault)) told)
 
-  no_schema : WhereTold a b (Refuses status.Unfinished sink sink') → Prints files a b sink sink' status.Unfinished
-  no_schema told = (nothing, tt, nothing_shown files, told_so a b (Refuses status.Unfinished sink sink') (ScanWrites status.Unfinished [] sink sink') (says_first (fault_line status.Unfinished)) told)
+  no_schema : WhereTold a b (SaysRefusal status.Unfinished sink sink') → PrintsFiles files a b sink sink' status.Unfinished
+  no_schema told = (nothing, tt, nothing_shown files, told_so a b (SaysRefusal status.Unfinished sink sink') (ScanWrites status.Unfinished [] sink sink') (says_first (fault_line status.Unfinished)) told)
 
-  pub refused : (expected result : Status) → (expected ≡ status.StoreFault) ⊎ (expected ≡ status.Unfinished) → IsOrNoMemory expected result → WhereTold a b (Refuses result sink sink') → Prints files a b sink sink' result
+  pub refused : (expected result : Status) → (expected ≡ status.StoreFault) ⊎ (expected ≡ status.Unfinished) → IsOrNoMemory expected result → WhereTold a b (SaysRefusal result sink sink') → PrintsFiles files a b sink sink' result
   refused expected result which is told =
       ⊎_elim (λ (e : result ≡ expected). ⊎_elim
-      (λ (w : expected ≡ status.StoreFault). let at : result ≡ status.StoreFault = e ∙ w in subst (λ (r : Status). Prints files a b sink sink' r) (sym at) (no_store (subst (λ (r : Status). WhereTold a b (Refuses r sink sink')) at told)))
-      (λ (w : expected ≡ status.Unfinished). let at : result ≡ status.Unfinished = e ∙ w in subst (λ (r : Status). Prints files a b sink sink' r) (sym at) (no_schema (subst (λ (r : Status). WhereTold a b (Refuses r sink sink')) at told))) which)
-      (λ (e : result ≡ status.NoMemory). subst (λ (r : Status). Prints files a b sink sink' r) (sym e) (no_memory (subst (λ (r : Status). WhereTold a b (Refuses r sink sink')) e told))) (either expected result is)
+      (λ (w : expected ≡ status.StoreFault). let at : result ≡ status.StoreFault = e ∙ w in subst (λ (r : Status). PrintsFiles files a b sink sink' r) (sym at) (no_store (subst (λ (r : Status). WhereTold a b (SaysRefusal r sink sink')) at told)))
+      (λ (w : expected ≡ status.Unfinished). let at : result ≡ status.Unfinished = e ∙ w in subst (λ (r : Status). PrintsFiles files a b sink sink' r) (sym at) (no_schema (subst (λ (r : Status). WhereTold a b (SaysRefusal r sink sink')) at told))) which)
+      (λ (e : result ≡ status.NoMemory). subst (λ (r : Status). PrintsFiles files a b sink sink' r) (sym e) (no_memory (subst (λ (r : Status). WhereTold a b (SaysRefusal r sink sink')) e told))) (either expected result is)
 
 -- ---- the end of the walk
 
@@ -135,34 +139,34 @@ with_schema : (files : Option Files) (P Q R : Files → Type 0) → ((m : Files)
 with_schema None P Q R f p q = tt
 with_schema (Some m) P Q R f p q = f m p q
 
-module _ (columns : Columns) (files : Option Files) (schema : IfSome files (λ m. IsSchema columns (bytes_of m schema_id))) (a b : Option (List ℕ)) (sink : ℕ) where
+module _ (columns : Columns) (files : Option Files) (schema : IfSome files (λ m. IsSchemaFile columns (bytes_of m (schema_id first_generation)))) (a b : Option (List ℕ)) (sink : ℕ) where
   is_part : (entries : List Entry) → IfSome files (λ m. IsPart columns m entries) → IfSome files (λ m. IsShown m (part columns entries))
-  is_part entries walk = with_schema files (λ m. IsSchema columns (bytes_of m schema_id)) (λ m. IsPart columns m entries) (λ m. IsShown m (part columns entries)) (λ m p q. (p, q)) schema walk
+  is_part entries walk = with_schema files (λ m. IsSchemaFile columns (bytes_of m (schema_id first_generation))) (λ m. IsPart columns m entries) (λ m. IsShown m (part columns entries)) (λ m p q. (p, q)) schema walk
 
   module _ (c : Option (List ℕ)) (mid sink' : ℕ) (before : sink ≤ mid) where
     behind_shown : (shown : Shown) (pushed text : List ℕ) (expected result : Status) → EndsScan expected shown → IsEither expected result → IfSome files (λ m. IsShown m shown)
-        → pushed ++ text ≡ shown_text shown → WhereTold a b (λ x y. y ≡ x ++ pushed) → WhereTold b c (ScanWrites result text mid sink') → Prints files a c sink sink' result
+        → pushed ++ text ≡ shown_text shown → WhereTold a b (λ x y. y ≡ x ++ pushed) → WhereTold b c (ScanWrites result text mid sink') → PrintsFiles files a c sink sink' result
     behind_shown shown pushed text expected result ends is walk whole one two =
         (shown, ends_either expected result shown ends is, walk, writes_behind pushed text (shown_text shown) whole sink mid sink' before result a b c one two)
 
-    pub end_whole : (scan : Scan) (result : Status) → Scanned columns files scan a b (Ok None) → IsEither status.Ok result → WhereTold b c (ScanWrites result (scan.text ++ count_line scan.rows) mid sink') → Prints files a c sink sink' result
+    pub end_whole : (scan : Scan) (result : Status) → Scanned columns files scan a b (Ok None) → IsEither status.Ok result → WhereTold b c (ScanWrites result (scan.text ++ count_line scan.rows) mid sink') → PrintsFiles files a c sink sink' result
     end_whole scan result (pushed, entries, stops, text, count, one) is two =
         let line : count_line scan.rows ≡ count_line (row_count columns entries) = ap count_line count in
         behind_shown (all columns entries) pushed (scan.text ++ count_line scan.rows) status.Ok result tt is
-        (with_schema files (λ m. IsSchema columns (bytes_of m schema_id)) (λ m. Stops columns (bytes_of m data_id) None 0 entries None) (λ m. IsShown m (all columns entries)) (λ m p q. (p, q)) schema stops)
+        (with_schema files (λ m. IsSchemaFile columns (bytes_of m (schema_id first_generation))) (λ m. Stops columns (bytes_of m (data_id first_generation)) None 0 entries None) (λ m. IsShown m (all columns entries)) (λ m p q. (p, q)) schema stops)
         (sym (append_assoc pushed scan.text (count_line scan.rows)) ∙ (ap (λ t. t ++ count_line scan.rows) text ∙ ap (λ t. entry_lines columns entries ++ t) line)) one two
 
-    pub end_damaged : (scan : Scan) (damage : Damage) (result : Status) → Scanned columns files scan a b (Ok (Some damage)) → IsEither (status.Damaged damage) result → WhereTold b c (ScanWrites result scan.text mid sink') → Prints files a c sink sink' result
+    pub end_damaged : (scan : Scan) (damage : Damage) (result : Status) → Scanned columns files scan a b (Ok (Some damage)) → IsEither (status.Damaged damage) result → WhereTold b c (ScanWrites result scan.text mid sink') → PrintsFiles files a c sink sink' result
     end_damaged scan damage result (pushed, entries, stops, text, count, one) is two = behind_shown (cut columns entries damage) pushed scan.text (status.Damaged damage) result refl is
-        (with_schema files (λ m. IsSchema columns (bytes_of m schema_id)) (λ m. Stops columns (bytes_of m data_id) None 0 entries (Some damage)) (λ m. IsShown m (cut columns entries damage)) (λ m p q. (p, q)) schema stops) text one two
+        (with_schema files (λ m. IsSchemaFile columns (bytes_of m (schema_id first_generation))) (λ m. Stops columns (bytes_of m (data_id first_generation)) None 0 entries (Some damage)) (λ m. IsShown m (cut columns entries damage)) (λ m p q. (p, q)) schema stops) text one two
 
-    pub end_stopped : (scan : Scan) (result : Status) → Scanned columns files scan a b (Err scan_error.StoreFault) → IsEither status.StoreFault result → WhereTold b c (ScanWrites result scan.text mid sink') → Prints files a c sink sink' result
+    pub end_stopped : (scan : Scan) (result : Status) → Scanned columns files scan a b (Err scan_error.StoreFault) → IsEither status.StoreFault result → WhereTold b c (ScanWrites result scan.text mid sink') → PrintsFiles files a c sink sink' result
     end_stopped scan result (pushed, entries, walk, text, one) is two = behind_shown (part columns entries) pushed scan.text status.StoreFault result tt is (is_part entries walk) text one two
 
-  pub end_pushed : (sink' : ℕ) (scan : Scan) → Scanned columns files scan a b (Err scan_error.SinkFault) → Prints files a b sink sink' status.SinkFault
+  pub end_pushed : (sink' : ℕ) (scan : Scan) → Scanned columns files scan a b (Err scan_error.SinkFault) → PrintsFiles files a b sink sink' status.SinkFault
   end_pushed sink' scan (entries, walk, told) = (part columns entries, tt, is_part entries walk, told)
 
-  pub end_memory : (sink' : ℕ) (scan : Scan) → Scanned columns files scan a b (Err scan_error.NoMemory) → Prints files a b sink sink' status.NoMemory
+  pub end_memory : (sink' : ℕ) (scan : Scan) → Scanned columns files scan a b (Err scan_error.NoMemory) → PrintsFiles files a b sink sink' status.NoMemory
   end_memory sink' scan (entries, walk, told) = (part columns entries, tt, is_part entries walk, told)
 
 -- over the files as they were at first
@@ -173,50 +177,22 @@ told_first columns now first scan a b found result files same scanned =
 
 -- ---- the start
 
-starts : (columns : Columns) (fs : Option Files) (limit : ℕ) → IfSome fs (λ m. length (bytes_of m data_id) ≡ limit) → IfSome fs (λ m. Continues (bytes_of m data_id) (record { bytes = []; at = 0; limit = limit; whole = false })
-    × Passes columns (bytes_of m data_id) None 0 [] None 0)
+starts : (columns : Columns) (fs : Option Files) (limit : ℕ) → IfSome fs (λ m. length (bytes_of m (data_id first_generation)) ≡ limit) → IfSome fs (λ m. Continues (bytes_of m (data_id first_generation)) (record { bytes = []; at = 0; limit = limit; whole = false })
+    × Passes columns (bytes_of m (data_id first_generation)) None 0 [] None 0)
 starts columns None limit long = tt
 starts columns (Some m) limit long =
-    (record { rest = bytes_of m data_id; is = refl; ended = λ e. cc; long = long }, record { onward = λ more stop walk. walk; only = λ every stop walk. (every, refl, walk) })
+    (record { rest = bytes_of m (data_id first_generation); is = refl; ended = λ e. cc; long = long }, record { onward = λ more stop walk. walk; only = λ every stop walk. (every, refl, walk) })
 
 pub fresh : (columns : Columns) (files : Option Files) (scan : Scan) (limit : ℕ) → scan.walk.window ≡ record { bytes = []; at = 0; limit = limit; whole = false } → inside_of scan.walk ≡ None → scan.text ≡ [] → scan.rows ≡ 0
-    → IfSome files (λ m. length (bytes_of m data_id) ≡ limit) → Holding columns files scan [] []
+    → IfSome files (λ m. length (bytes_of m (data_id first_generation)) ≡ limit) → Holding columns files scan [] []
 fresh columns files scan limit window outside text rows long = record {
-  walked = subst (λ (w : Unread). IfSome files (λ m. Continues (bytes_of m data_id) w × Passes columns (bytes_of m data_id) None 0 [] (inside_of scan.walk) w.at)) (sym window)
-      (subst (λ (o : Option (List ℕ)). IfSome files (λ m. Continues (bytes_of m data_id) (record { bytes = []; at = 0; limit = limit; whole = false }) × Passes columns (bytes_of m data_id) None 0 [] o 0)) (sym outside) (starts columns files limit long));
+  walked = subst (λ (w : Unread). IfSome files (λ m. Continues (bytes_of m (data_id first_generation)) w × Passes columns (bytes_of m (data_id first_generation)) None 0 [] (inside_of scan.walk) w.at)) (sym window)
+      (subst (λ (o : Option (List ℕ)). IfSome files (λ m. Continues (bytes_of m (data_id first_generation)) (record { bytes = []; at = 0; limit = limit; whole = false }) × Passes columns (bytes_of m (data_id first_generation)) None 0 [] o 0)) (sym outside) (starts columns files limit long));
   text = text;
   count = rows;
 }
 
 -- ---- files that stand for a map
-
-module _ (columns : Columns) where
-  -- the rows of a partition, its end, and what is behind it
-  rows_walk : (rows : List Row) (key tail : List ℕ) (entries : List Entry) → AreRows columns rows → ((at : ℕ) → Walks columns None at tail entries None)
-      → (at : ℕ) → Walks columns (Some key) at ((rows_bytes rows ++ end_bytes) ++ tail) (row_entries key rows ++ entries) None
-  rows_walk [] key tail entries are next at = walks.closes at key (0 ∷ tail) tail entries None refl (next (at + 1))
-  rows_walk (r ∷ rows) key tail entries (is, are) next at =
-      let bytes : ((row_bytes r.clustering r.value ++ rows_bytes rows) ++ end_bytes) ++ tail ≡ row_bytes r.clustering r.value ++ ((rows_bytes rows ++ end_bytes) ++ tail) =
-      ap (λ b. b ++ tail) (append_assoc (row_bytes r.clustering r.value) (rows_bytes rows) end_bytes) ∙ append_assoc (row_bytes r.clustering r.value) (rows_bytes rows ++ end_bytes) tail in
-      walks.row at key r.clustering r.value (((row_bytes r.clustering r.value ++ rows_bytes rows) ++ end_bytes) ++ tail) ((rows_bytes rows ++ end_bytes) ++ tail) (row_entries key rows ++ entries) None is bytes
-      (rows_walk rows key tail entries are next (at + length (row_bytes r.clustering r.value)))
-
-  parts_in : (h f r tail : List ℕ) → (h ++ (f ++ r)) ++ tail ≡ (h ++ f) ++ (r ++ tail)
-  parts_in h f r tail = simp append_assoc
-
-  partitions_walk : (partitions : List Partition) → ArePartitions columns partitions → (at : ℕ) → Walks columns None at (data_bytes columns.static_value partitions) (entries_in partitions) None
-  partitions_walk [] are at = walks.ends at
-  partitions_walk (p ∷ partitions) (is, fixed, rows, are) at =
-      let tail : List ℕ = data_bytes columns.static_value partitions in
-      let front : List ℕ = head_bytes p.key ++ fixed_bytes columns.static_value p.fixed in
-      let behind : List ℕ = (rows_bytes p.rows ++ end_bytes) ++ tail in
-      walks.head at p.key p.fixed (partition_bytes columns.static_value p ++ tail) behind (row_entries p.key p.rows ++ entries_in partitions) None is fixed
-      (parts_in (head_bytes p.key) (fixed_bytes columns.static_value p.fixed) (rows_bytes p.rows ++ end_bytes) tail)
-      (rows_walk p.rows p.key tail (entries_in partitions) rows (partitions_walk partitions are) (at + length front))
-
-  stands_walk : (file : List ℕ) (rows : List Entry) → Holds columns file rows → Walks columns None 0 file rows None
-  stands_walk file rows holds = subst (λ (b : List ℕ). Walks columns None 0 b rows None) (sym holds.listed.0)
-      (subst (λ (es : List Entry). Walks columns None 0 (data_bytes columns.static_value holds.partitions) es None) holds.same (partitions_walk holds.partitions holds.listed.1 0))
 
 -- a longer text has the prefix too
 prefix_longer : (text rest x y : List ℕ) → AppendsPrefix text x y → AppendsPrefix (text ++ rest) x y
@@ -228,23 +204,23 @@ module _ (columns : Columns) where
       ap (λ t. t ++ count_line (row_count columns rows)) (ap (entry_lines columns) e ∙ lines_append columns front rest)
       ∙ append_assoc (entry_lines columns front) (entry_lines columns rest) (count_line (row_count columns rows))
 
-module _ (files : Files) (columns : Columns) (rows : List Entry) (schema : IsSchema columns (bytes_of files schema_id)) (walk : Walks columns None 0 (bytes_of files data_id) rows None) where
+module _ (files : Files) (columns : Columns) (rows : List Entry) (schema : IsSchemaFile columns (bytes_of files (schema_id first_generation))) (walk : Walks columns None 0 (bytes_of files (data_id first_generation)) rows None) where
   -- the columns that were read are those of the schema
   part_rows : (read : Columns) (front : List Entry) → IsShown files (part read front) → (rest : List Entry) × (rows ≡ front ++ rest)
   part_rows read front (is, (inside, at, passes)) =
-      let found = passes.only rows None (subst (λ (c : Columns). Walks c None 0 (bytes_of files data_id) rows None) (one_schema (bytes_of files schema_id) columns read schema is) walk) in (found.0, found.1)
+      let found = passes.only rows None (subst (λ (c : Columns). Walks c None 0 (bytes_of files (data_id first_generation)) rows None) (one_schema (bytes_of files (schema_id first_generation)) columns read schema is) walk) in (found.0, found.1)
 
   all_rows : (read : Columns) (found : List Entry) → IsShown files (all read found) → rows ≡ found
   all_rows read found (is, stops) =
-      (stops.only rows None (subst (λ (c : Columns). Walks c None 0 (bytes_of files data_id) rows None) (one_schema (bytes_of files schema_id) columns read schema is) walk)).0
+      (stops.only rows None (subst (λ (c : Columns). Walks c None 0 (bytes_of files (data_id first_generation)) rows None) (one_schema (bytes_of files (schema_id first_generation)) columns read schema is) walk)).0
 
   no_cut : (read : Columns) (found : List Entry) (damage : Damage) → IsShown files (cut read found damage) → ⊥
   no_cut read found damage (is, stops) =
       let same : None ≡ Some damage =
-      (stops.only rows None (subst (λ (c : Columns). Walks c None 0 (bytes_of files data_id) rows None) (one_schema (bytes_of files schema_id) columns read schema is) walk)).1 in cc
+      (stops.only rows None (subst (λ (c : Columns). Walks c None 0 (bytes_of files (data_id first_generation)) rows None) (one_schema (bytes_of files (schema_id first_generation)) columns read schema is) walk)).1 in cc
 
-  read_as : (read : Columns) → IsSchema read (bytes_of files schema_id) → read ≡ columns
-  read_as read is = one_schema (bytes_of files schema_id) read columns is schema
+  read_as : (read : Columns) → IsSchemaFile read (bytes_of files (schema_id first_generation)) → read ≡ columns
+  read_as read is = one_schema (bytes_of files (schema_id first_generation)) read columns is schema
 
   nothing_prefix : (text x y : List ℕ) → AppendsPrefix [] x y → AppendsPrefix text x y
   nothing_prefix text x y (k, short, e) = (0, omega arith, e ∙ ap (λ (t : List ℕ). x ++ t) (take-nil k))
@@ -305,69 +281,121 @@ module _ (files : Files) (columns : Columns) (rows : List Entry) (schema : IsSch
   ends_well status.Exists shown store store' sink sink' ends sound is store_fault sink_fault quiet still = absurd ends
   ends_well status.TooLarge shown store store' sink sink' ends sound is store_fault sink_fault quiet still = absurd ends
 
+-- ---- the whole promise
+
+-- the status is one that `scan` may end with
+of_scan : (result : Status) (shown : Shown) → EndsScan result shown → IsOfScan result
+of_scan status.Ok shown ends = tt
+of_scan status.NoMemory shown ends = tt
+of_scan status.SinkFault shown ends = tt
+of_scan status.StoreFault shown ends = tt
+of_scan (status.Damaged damage) shown ends = tt
+of_scan status.Unfinished shown ends = tt
+of_scan status.Usage shown ends = absurd ends
+of_scan status.Key shown ends = absurd ends
+of_scan (status.BadLine line cause) shown ends = absurd ends
+of_scan status.SourceFault shown ends = absurd ends
+of_scan status.Exists shown ends = absurd ends
+of_scan status.TooLarge shown ends = absurd ends
+
+-- its faults are those of the store and of the sink
+rose_of : (before after : Outside) (result : Status) → IsOfScan result → (result ≡ status.StoreFault → StoreFails before after) → (result ≡ status.SinkFault → SinkFails before after)
+    → FaultRose before after result
+rose_of before after status.Ok is store sink = tt
+rose_of before after status.NoMemory is store sink = tt
+rose_of before after status.SinkFault is store sink = sink refl
+rose_of before after status.StoreFault is store sink = store refl
+rose_of before after (status.Damaged damage) is store sink = tt
+rose_of before after status.Unfinished is store sink = tt
+rose_of before after status.Usage is store sink = tt
+rose_of before after status.Key is store sink = tt
+rose_of before after (status.BadLine line cause) is store sink = tt
+rose_of before after status.SourceFault is store sink = absurd is
+rose_of before after status.Exists is store sink = tt
+rose_of before after status.TooLarge is store sink = tt
+
+-- Schema.txt of the files isn't a whole text
+abbrev IsTorn : Files → Type 0
+IsTorn m = ¬ (IsWholeSchemaFile (bytes_of m (schema_id first_generation)))
+
 module _ (store store' : ℕ) (a b : Option (List ℕ)) (sink sink' : ℕ) (result : Status) (store_fault : result ≡ status.StoreFault → Rose store store') (sink_fault : result ≡ status.SinkFault → Rose sink sink') where
-  stand_all : (files : Option Files) → IfSome files (λ m. result ≡ status.Unfinished → ¬ (IsWhole (bytes_of m schema_id))) → Prints files a b sink sink' result
-      → IfSome files (λ m. (columns : Columns) (rows : List Entry) → StandFor m columns rows → WhereTold a b (ScanPrints columns result rows sink sink'))
+  stand_all : (files : Option Files) → IfSome files (λ m. result ≡ status.Unfinished → IsTorn m) → PrintsFiles files a b sink sink' result
+      → IfSome files (λ m. (columns : Columns) (table : Table) → StandFor m first_generation columns table → WhereTold a b (ScanPrints columns result (map.entries table) sink sink'))
   stand_all None unfinished prints = tt
-  stand_all (Some m) unfinished (shown, ends, is, told) = λ columns rows stand.
-      told_so a b (ScanWrites result (shown_text shown) sink sink') (ScanPrints columns result rows sink sink')
-      (λ x y writes. prints_one m columns rows stand.schema (stands_walk columns (bytes_of m data_id) rows stand.held) result shown sink sink' x y ends (λ u. unfinished u (columns, stand.schema)) is writes) told
+  stand_all (Some m) unfinished (shown, ends, is, told) = λ columns table stand.
+      told_so a b (ScanWrites result (shown_text shown) sink sink') (ScanPrints columns result (map.entries table) sink sink')
+      (λ x y writes. prints_one m columns (map.entries table) stand.schema (stands_walk columns (bytes_of m (data_id first_generation)) (map.entries table) stand.held) result shown sink sink' x y ends
+      (λ u. unfinished u (columns, stand.schema)) is writes) told
 
-  complete_all : (files : Option Files) → IfSome files (λ m. result ≡ status.Unfinished → ¬ (IsWhole (bytes_of m schema_id))) → Prints files a b sink sink' result
-      → IfSome files (λ m. (columns : Columns) (rows : List Entry) → StandFor m columns rows → ¬ (Rose store store') → ¬ (Rose sink sink') → IsOrNoMemory status.Ok result)
+  complete_all : (files : Option Files) → IfSome files (λ m. result ≡ status.Unfinished → IsTorn m) → PrintsFiles files a b sink sink' result
+      → IfSome files (λ m. (columns : Columns) (table : Table) → StandFor m first_generation columns table → ¬ (Rose store store') → ¬ (Rose sink sink') → IsOrNoMemory status.Ok result)
   complete_all None unfinished prints = tt
-  complete_all (Some m) unfinished (shown, ends, is, told) = λ columns rows stand quiet still.
-      ends_well m columns rows stand.schema (stands_walk columns (bytes_of m data_id) rows stand.held) result shown store store' sink sink' ends (λ u. unfinished u (columns, stand.schema)) is store_fault sink_fault quiet still
+  complete_all (Some m) unfinished (shown, ends, is, told) = λ columns table stand quiet still.
+      ends_well m columns (map.entries table) stand.schema (stands_walk columns (bytes_of m (data_id first_generation)) (map.entries table) stand.held) result shown store store' sink sink' ends
+      (λ u. unfinished u (columns, stand.schema)) is store_fault sink_fault quiet still
 
-  pub scan_ends : (files : Option Files) → IfSome files (λ m. result ≡ status.Unfinished → ¬ (IsWhole (bytes_of m schema_id))) → IfSome files (λ m. ¬ (IsWhole (bytes_of m schema_id)) → IsUnfinished result)
-      → Prints files a b sink sink' result → ScanEnds files store store' a b sink sink' result
-  scan_ends files unfinished whole prints = record {
-    store_fault = store_fault;
-    sink_fault = sink_fault;
-    unfinished = unfinished;
-    whole = whole;
-    rows = prints;
-    stand = stand_all files unfinished prints;
-    complete = complete_all files unfinished prints;
-  }
+  module _ (left : Option (List ℕ)) (source : ℕ) (files files' : Option Files) (reads reads' : ℕ) (kept : files' ≡ files) where
+    abbrev Ended : Type 0
+    Ended = ScanEnds (outside_of left source a sink files store reads) (outside_of left source b sink' files' store' reads') result
+
+    pub scan_ends : IfSome files (λ m. result ≡ status.Unfinished → IsTorn m) → IfSome files (λ m. IsTorn m → IsUnfinished result) → PrintsFiles files a b sink sink' result → Ended
+    scan_ends unfinished whole prints =
+        let possible : IsOfScan result = of_scan result prints.0 prints.1 in
+        record {
+          possible = possible;
+          faults = rose_of (outside_of left source a sink files store reads) (outside_of left source b sink' files' store' reads') result possible store_fault sink_fault;
+          unfinished = unfinished;
+          whole = whole;
+          rows = prints;
+          stand = stand_all files unfinished prints;
+          complete = complete_all files unfinished prints;
+          source = (refl, refl);
+          files = kept;
+        }
 
 -- ---- Schema.txt decides
 
 not_of : (expected result other : Status) → IsOrNoMemory expected result → (expected ≡ other → ⊥) → (status.NoMemory ≡ other → ⊥) → result ≡ other → ⊥
 not_of expected result other is apart memory e = ⊎_elim (λ (t : result ≡ expected). apart (sym t ∙ e)) (λ (t : result ≡ status.NoMemory). memory (sym t ∙ e)) (either expected result is)
 
-pub whole_schema : (files : Option Files) (columns : Columns) (result : Status) → IfSome files (λ m. IsSchema columns (bytes_of m schema_id))
-    → IfSome files (λ m. ¬ (IsWhole (bytes_of m schema_id)) → IsUnfinished result)
+pub whole_schema : (files : Option Files) (columns : Columns) (result : Status) → IfSome files (λ m. IsSchemaFile columns (bytes_of m (schema_id first_generation)))
+    → IfSome files (λ m. ¬ (IsWholeSchemaFile (bytes_of m (schema_id first_generation))) → IsUnfinished result)
 whole_schema None columns result is = tt
 whole_schema (Some m) columns result is = λ torn. absurd (torn (columns, is))
 
-pub not_found : (files : Option Files) (result : Status) → (result ≡ status.Unfinished → ⊥) → IfSome files (λ m. result ≡ status.Unfinished → ¬ (IsWhole (bytes_of m schema_id)))
+pub not_found : (files : Option Files) (result : Status) → (result ≡ status.Unfinished → ⊥) → IfSome files (λ m. result ≡ status.Unfinished → ¬ (IsWholeSchemaFile (bytes_of m (schema_id first_generation))))
 not_found None result other = tt
 not_found (Some m) result other = λ is. absurd (other is)
 
-no_whole : (files : Option Files) (result : Status) → IfSome files (λ m. ¬ (IsWhole (bytes_of m schema_id))) → IfSome files (λ m. result ≡ status.Unfinished → ¬ (IsWhole (bytes_of m schema_id)))
+no_whole : (files : Option Files) (result : Status) → IfSome files (λ m. ¬ (IsWholeSchemaFile (bytes_of m (schema_id first_generation)))) → IfSome files (λ m. result ≡ status.Unfinished → ¬ (IsWholeSchemaFile (bytes_of m (schema_id first_generation))))
 no_whole None result torn = tt
 no_whole (Some m) result torn = λ u. torn
 
-allowed : (files : Option Files) (result : Status) → IsUnfinished result → IfSome files (λ m. ¬ (IsWhole (bytes_of m schema_id)) → IsUnfinished result)
+allowed : (files : Option Files) (result : Status) → IsUnfinished result → IfSome files (λ m. ¬ (IsWholeSchemaFile (bytes_of m (schema_id first_generation))) → IsUnfinished result)
 allowed None result is = tt
 allowed (Some m) result is = λ ne. is
 
 is_allowed : (expected result : Status) → IsUnfinished expected → IsOrNoMemory expected result → IsUnfinished result
 is_allowed expected result allow is = ⊎_elim (λ (t : result ≡ expected). subst (λ (s : Status). IsUnfinished s) (sym t) allow) (λ (t : result ≡ status.NoMemory). subst (λ (s : Status). IsUnfinished s) (sym t) tt) (either expected result is)
 
-module _ (store store' : ℕ) (files : Option Files) (a b : Option (List ℕ)) (sink sink' : ℕ) (result : Status) (told : WhereTold a b (Refuses result sink sink')) where
-  pub unfinished_ends : IfSome files (λ m. ¬ (IsWhole (bytes_of m schema_id))) → IsOrNoMemory status.Unfinished result → ScanEnds files store store' a b sink sink' result
+module _ (left : Option (List ℕ)) (source : ℕ) (files files' : Option Files) (store store' reads reads' : ℕ) (a b : Option (List ℕ)) (sink sink' : ℕ) (result : Status) (kept : files' ≡ files)
+    (told : WhereTold a b (SaysRefusal result sink sink')) where
+  abbrev Refused : Type 0
+  Refused = ScanEnds (outside_of left source a sink files store reads) (outside_of left source b sink' files' store' reads') result
+
+  pub unfinished_ends : IfSome files IsTorn → IsOrNoMemory status.Unfinished result → Refused
   unfinished_ends torn is = scan_ends store store' a b sink sink' result
       (λ e. absurd (not_of status.Unfinished result status.StoreFault is (λ t. cc) (λ t. cc) e)) (λ e. absurd (not_of status.Unfinished result status.SinkFault is (λ t. cc) (λ t. cc) e))
-      files (no_whole files result torn) (allowed files result (is_allowed status.Unfinished result tt is)) (refused files a b sink sink' status.Unfinished result (inr refl) is told)
+      left source files files' reads reads' kept (no_whole files result torn) (allowed files result (is_allowed status.Unfinished result tt is)) (refused files a b sink sink' status.Unfinished result (inr refl) is told)
 
-  pub fault_ends : Rose store store' → IsOrNoMemory status.StoreFault result → ScanEnds files store store' a b sink sink' result
+  pub fault_ends : Rose store store' → IsOrNoMemory status.StoreFault result → Refused
   fault_ends rose is = scan_ends store store' a b sink sink' result
       (λ e. rose) (λ e. absurd (not_of status.StoreFault result status.SinkFault is (λ t. cc) (λ t. cc) e))
-      files (not_found files result (not_of status.StoreFault result status.Unfinished is (λ t. cc) (λ t. cc))) (allowed files result (is_allowed status.StoreFault result tt is)) (refused files a b sink sink' status.StoreFault result (inl refl) is told)
+      left source files files' reads reads' kept (not_found files result (not_of status.StoreFault result status.Unfinished is (λ t. cc) (λ t. cc))) (allowed files result (is_allowed status.StoreFault result tt is))
+      (refused files a b sink sink' status.StoreFault result (inl refl) is told)
 
 -- want of memory before anything was printed
-pub no_memory_ends : (files : Option Files) (store store' : ℕ) (written : Option (List ℕ)) (sink : ℕ) → ScanEnds files store store' written written sink sink status.NoMemory
-no_memory_ends files store store' written sink = scan_ends store store' written written sink sink status.NoMemory (λ e. cc) (λ e. cc) files (not_found files status.NoMemory (λ e. cc))
-    (allowed files status.NoMemory tt) (nothing, tt, nothing_shown files, nothing_written written sink)
+pub no_memory_ends : (left : Option (List ℕ)) (source : ℕ) (written : Option (List ℕ)) (sink : ℕ) (files files' : Option Files) (store store' reads reads' : ℕ) → files' ≡ files
+    → ScanEnds (outside_of left source written sink files store reads) (outside_of left source written sink files' store' reads') status.NoMemory
+no_memory_ends left source written sink files files' store store' reads reads' kept = scan_ends store store' written written sink sink status.NoMemory (λ e. cc) (λ e. cc) left source files files' reads reads' kept
+    (not_found files status.NoMemory (λ e. cc)) (allowed files status.NoMemory tt) (nothing, tt, nothing_shown files, nothing_written written sink)

@@ -7,21 +7,25 @@ use Rattle.outside.specs.Told.{WhereTold}
 use Rattle.outside.specs.Files.{Files, LeavesPrefix, bytes_of, place_of}
 use Rattle.outside.specs.declared.store.FileId.{FileId}
 use Rattle.key_types.specs.Columns.{Columns}
-use Rattle.key_types.specs.Table.{Entry}
+use Rattle.key_types.specs.Table.{Table}
 use Rattle.data_file.specs.Writing.{PutsAllBut}
-use Rattle.table_tool.specs.Standing.{AreColumns, data_id, partitions_id, rows_id, schema_id, schema_text, Holds, StandFor}
-use Rattle.table_tool.specs.Loading.{Adds, Begun, Flushes, NoneThere, Reaches, Started, is_there, one_there}
+use Rattle.table_tool.specs.Loading.{AddsFiles, Begun, Flushes, NoneThere, Reaches, Started}
 use Rattle.table_tool.proofs.Writes.{PutSome, Set, bytes_of-other, bytes_of-same, told_none, told_so, told_then}
+use Rattle.table_files.specs.Names.{data_id, partitions_id, rows_id, schema_id}
+use Rattle.table_files.specs.SchemaFile.{HaveSchemaFile, schema_file_text}
+use Rattle.table_files.specs.Standing.{Holds, StandFor}
+use Rattle.table_files.specs.There.{any_there, file_there}
+use Rattle.table_tool.specs.First.{first_generation}
 
-schema_apart : schema_id ≢ data_id
+schema_apart : (schema_id first_generation) ≢ (data_id first_generation)
 schema_apart e = let no : ◌≡◌ {A = ℕ} 3 0 = ap (λ (f : FileId). place_of f.part) e in omega arith
 
-data_apart : data_id ≢ schema_id
+data_apart : (data_id first_generation) ≢ (schema_id first_generation)
 data_apart e = schema_apart (sym e)
 
 -- both were put, behind what was there
 abbrev pub Sets : Columns → List ℕ → Files → Files → Type 0
-Sets columns bytes old new = new ≡ map.insert (map.insert old data_id (bytes_of old data_id ++ bytes)) schema_id (bytes_of old schema_id ++ schema_text columns)
+Sets columns bytes old new = new ≡ map.insert (map.insert old (data_id first_generation) (bytes_of old (data_id first_generation) ++ bytes)) (schema_id first_generation) (bytes_of old (schema_id first_generation) ++ schema_file_text columns)
 
 -- ---- where the files are told
 
@@ -47,15 +51,15 @@ no_bytes : (o : Option (List ℕ)) → is_some o ≡ false → unwrap_or o [] �
 no_bytes None e = refl
 no_bytes (Some bytes) e = cc
 
-no_data : (old : Files) → one_there old ≡ false → bytes_of old data_id ≡ []
+no_data : (old : Files) → any_there first_generation old ≡ false → bytes_of old (data_id first_generation) ≡ []
 no_data old e =
-    let a = neither (is_there old data_id || is_there old partitions_id || is_there old rows_id) (is_there old schema_id) e in
-    let b = neither (is_there old data_id || is_there old partitions_id) (is_there old rows_id) a.0 in
-    no_bytes (map.get old data_id) (neither (is_there old data_id) (is_there old partitions_id) b.0).0
+    let a = neither (file_there old (data_id first_generation) || file_there old (partitions_id first_generation) || file_there old (rows_id first_generation)) (file_there old (schema_id first_generation)) e in
+    let b = neither (file_there old (data_id first_generation) || file_there old (partitions_id first_generation)) (file_there old (rows_id first_generation)) a.0 in
+    no_bytes (map.get old (data_id first_generation)) (neither (file_there old (data_id first_generation)) (file_there old (partitions_id first_generation)) b.0).0
 
-no_schema : (old : Files) → one_there old ≡ false → bytes_of old schema_id ≡ []
+no_schema : (old : Files) → any_there first_generation old ≡ false → bytes_of old (schema_id first_generation) ≡ []
 no_schema old e =
-    no_bytes (map.get old schema_id) (neither (is_there old data_id || is_there old partitions_id || is_there old rows_id) (is_there old schema_id) e).1
+    no_bytes (map.get old (schema_id first_generation)) (neither (file_there old (data_id first_generation) || file_there old (partitions_id first_generation) || file_there old (rows_id first_generation)) (file_there old (schema_id first_generation)) e).1
 
 module _ (columns : Columns) where
   -- ---- a prefix of them
@@ -65,15 +69,15 @@ module _ (columns : Columns) where
   nothing_flushed f bytes = told_none f _ (λ xs. inl (bytes, ([], refl, inr (refl, refl))))
 
   -- the file of the data failed
-  pub data_stopped : (f0 f1 : Option Files) (bytes : List ℕ) → PutSome f0 f1 data_id bytes → WhereTold f0 f1 (Reaches columns bytes)
+  pub data_stopped : (f0 f1 : Option Files) (bytes : List ℕ) → PutSome f0 f1 (data_id first_generation) bytes → WhereTold f0 f1 (Reaches columns bytes)
   data_stopped f0 f1 bytes some = told_so f0 f1 _ _ (λ xs ys p. inl p) some
 
   -- the file of the schema failed
-  pub schema_stopped : (f0 f1 f2 : Option Files) (bytes text : List ℕ) → text ≡ schema_text columns → Set f0 f1 data_id bytes → WhereTold f1 f2 (λ ys zs. LeavesPrefix ys zs schema_id text)
+  pub schema_stopped : (f0 f1 f2 : Option Files) (bytes text : List ℕ) → text ≡ schema_file_text columns → Set f0 f1 (data_id first_generation) bytes → WhereTold f1 f2 (λ ys zs. LeavesPrefix ys zs (schema_id first_generation) text)
       → WhereTold f0 f2 (Reaches columns bytes)
   schema_stopped f0 f1 f2 bytes text is set append =
       told_then f0 f1 f2 _ _ _
-      (λ xs ys zs p q. inr (subst (λ (m : Files). LeavesPrefix m zs schema_id (schema_text columns)) p (subst (λ (t : List ℕ). LeavesPrefix ys zs schema_id t) is q))) set append
+      (λ xs ys zs p q. inr (subst (λ (m : Files). LeavesPrefix m zs (schema_id first_generation) (schema_file_text columns)) p (subst (λ (t : List ℕ). LeavesPrefix ys zs (schema_id first_generation) t) is q))) set append
 
   pub failed_flush : {T E : Type 0} (f0 f1 : Option Files) (r : Result T E) (bytes : List ℕ) → IsErr r → WhereTold f0 f1 (Reaches columns bytes) → Flushes columns f0 f1 r bytes
   failed_flush f0 f1 (Ok x) bytes bad stopped = cc
@@ -81,64 +85,65 @@ module _ (columns : Columns) where
 
   -- ---- both files
 
-  both_set : (xs ys zs : Files) (bytes : List ℕ) → ys ≡ map.insert xs data_id (bytes_of xs data_id ++ bytes) → zs ≡ map.insert ys schema_id (bytes_of ys schema_id ++ schema_text columns) → Sets columns bytes xs zs
+  both_set : (xs ys zs : Files) (bytes : List ℕ) → ys ≡ map.insert xs (data_id first_generation) (bytes_of xs (data_id first_generation) ++ bytes) → zs ≡ map.insert ys (schema_id first_generation) (bytes_of ys (schema_id first_generation) ++ schema_file_text columns) → Sets columns bytes xs zs
   both_set xs ys zs bytes first second =
-      let made : Files = map.insert xs data_id (bytes_of xs data_id ++ bytes) in
+      let made : Files = map.insert xs (data_id first_generation) (bytes_of xs (data_id first_generation) ++ bytes) in
       second
-      ∙ ap (λ (m : Files). map.insert m schema_id (bytes_of m schema_id ++ schema_text columns)) first
-      ∙ ap (λ (bs : List ℕ). map.insert made schema_id (bs ++ schema_text columns)) (bytes_of-other xs data_id (bytes_of xs data_id ++ bytes) schema_id schema_apart)
+      ∙ ap (λ (m : Files). map.insert m (schema_id first_generation) (bytes_of m (schema_id first_generation) ++ schema_file_text columns)) first
+      ∙ ap (λ (bs : List ℕ). map.insert made (schema_id first_generation) (bs ++ schema_file_text columns)) (bytes_of-other xs (data_id first_generation) (bytes_of xs (data_id first_generation) ++ bytes) (schema_id first_generation) schema_apart)
 
-  pub flushed : (f0 f1 f2 : Option Files) (bytes text : List ℕ) → text ≡ schema_text columns → Set f0 f1 data_id bytes
-      → WhereTold f1 f2 (λ ys zs. (zs ≡ map.insert ys schema_id (bytes_of ys schema_id ++ text)) × (length (bytes_of ys schema_id ++ text) < 2 ^ 62)) → WhereTold f0 f2 (Sets columns bytes)
+  pub flushed : (f0 f1 f2 : Option Files) (bytes text : List ℕ) → text ≡ schema_file_text columns → Set f0 f1 (data_id first_generation) bytes
+      → WhereTold f1 f2 (λ ys zs. (zs ≡ map.insert ys (schema_id first_generation) (bytes_of ys (schema_id first_generation) ++ text)) × (length (bytes_of ys (schema_id first_generation) ++ text) < 2 ^ 62)) → WhereTold f0 f2 (Sets columns bytes)
   flushed f0 f1 f2 bytes text is set append =
-      told_then f0 f1 f2 _ _ _ (λ xs ys zs p q. both_set xs ys zs bytes p (subst (λ (t : List ℕ). zs ≡ map.insert ys schema_id (bytes_of ys schema_id ++ t)) is q.0)) set append
+      told_then f0 f1 f2 _ _ _ (λ xs ys zs p q. both_set xs ys zs bytes p (subst (λ (t : List ℕ). zs ≡ map.insert ys (schema_id first_generation) (bytes_of ys (schema_id first_generation) ++ t)) is q.0)) set append
 
-  sets_adds : (bytes : List ℕ) (old new : Files) → one_there old ≡ false → Sets columns bytes old new → Adds columns bytes old new
+  sets_adds : (bytes : List ℕ) (old new : Files) → any_there first_generation old ≡ false → Sets columns bytes old new → AddsFiles columns bytes old new
   sets_adds bytes old new none is =
       is
-      ∙ ap (λ (bs : List ℕ). map.insert (map.insert old data_id (bs ++ bytes)) schema_id (bytes_of old schema_id ++ schema_text columns)) (no_data old none)
-      ∙ ap (λ (bs : List ℕ). map.insert (map.insert old data_id bytes) schema_id (bs ++ schema_text columns)) (no_schema old none)
+      ∙ ap (λ (bs : List ℕ). map.insert (map.insert old (data_id first_generation) (bs ++ bytes)) (schema_id first_generation) (bytes_of old (schema_id first_generation) ++ schema_file_text columns)) (no_data old none)
+      ∙ ap (λ (bs : List ℕ). map.insert (map.insert old (data_id first_generation) bytes) (schema_id first_generation) (bs ++ schema_file_text columns)) (no_schema old none)
 
-  pub added : (f0 f1 : Option Files) (bytes : List ℕ) → NoneThere f0 → WhereTold f0 f1 (Sets columns bytes) → WhereTold f0 f1 (Adds columns bytes)
+  pub added : (f0 f1 : Option Files) (bytes : List ℕ) → NoneThere f0 → WhereTold f0 f1 (Sets columns bytes) → WhereTold f0 f1 (AddsFiles columns bytes)
   added f0 f1 bytes none sets = told_from f0 f1 _ _ _ (λ old new p q. sets_adds bytes old new p q) none sets
 
   -- ---- how far they came, where none was there
 
-  data_started : (bytes : List ℕ) (old new : Files) (left : List ℕ) → one_there old ≡ false → PutsAllBut old new data_id bytes left → Started data_id bytes old new
-  data_started bytes old new left none (front, e, inl is) = inr (front, left, e, is ∙ ap (λ (bs : List ℕ). map.insert old data_id (bs ++ front)) (no_data old none))
+  data_started : (bytes : List ℕ) (old new : Files) (left : List ℕ) → any_there first_generation old ≡ false → PutsAllBut old new (data_id first_generation) bytes left → Started (data_id first_generation) bytes old new
+  data_started bytes old new left none (front, e, inl is) = inr (front, left, e, is ∙ ap (λ (bs : List ℕ). map.insert old (data_id first_generation) (bs ++ front)) (no_data old none))
   data_started bytes old new left none (front, e, inr (nothing, same)) = inl same
 
-  schema_started : (bytes : List ℕ) (old new : Files) → one_there old ≡ false → LeavesPrefix (map.insert old data_id bytes) new schema_id (schema_text columns)
-      → Started schema_id (schema_text columns) (map.insert old data_id bytes) new
+  schema_started : (bytes : List ℕ) (old new : Files) → any_there first_generation old ≡ false → LeavesPrefix (map.insert old (data_id first_generation) bytes) new (schema_id first_generation) (schema_file_text columns)
+      → Started (schema_id first_generation) (schema_file_text columns) (map.insert old (data_id first_generation) bytes) new
   schema_started bytes old new none (inl same) = inl same
   schema_started bytes old new none (inr (k, few, is)) =
-      let made : Files = map.insert old data_id bytes in
+      let made : Files = map.insert old (data_id first_generation) bytes in
       inr (
-        take k (schema_text columns),
-        drop k (schema_text columns),
-        sym (take-append-drop k (schema_text columns)),
-        is ∙ ap (λ (bs : List ℕ). map.insert made schema_id (bs ++ take k (schema_text columns))) (bytes_of-other old data_id bytes schema_id schema_apart ∙ no_schema old none),
+        take k (schema_file_text columns),
+        drop k (schema_file_text columns),
+        sym (take-append-drop k (schema_file_text columns)),
+        is ∙ ap (λ (bs : List ℕ). map.insert made (schema_id first_generation) (bs ++ take k (schema_file_text columns))) (bytes_of-other old (data_id first_generation) bytes (schema_id first_generation) schema_apart ∙ no_schema old none),
       )
 
-  reaches_begins : (bytes : List ℕ) (old new : Files) → one_there old ≡ false → Reaches columns bytes old new → Begun columns bytes old new
+  reaches_begins : (bytes : List ℕ) (old new : Files) → any_there first_generation old ≡ false → Reaches columns bytes old new → Begun columns bytes old new
   reaches_begins bytes old new none (inl (left, put)) = inl (data_started bytes old new left none put)
   reaches_begins bytes old new none (inr put) =
-      inr (schema_started bytes old new none (subst (λ (bs : List ℕ). LeavesPrefix (map.insert old data_id (bs ++ bytes)) new schema_id (schema_text columns)) (no_data old none) put))
+      inr (schema_started bytes old new none (subst (λ (bs : List ℕ). LeavesPrefix (map.insert old (data_id first_generation) (bs ++ bytes)) new (schema_id first_generation) (schema_file_text columns)) (no_data old none) put))
 
   pub reached : (f0 f1 : Option Files) (bytes : List ℕ) → NoneThere f0 → WhereTold f0 f1 (Reaches columns bytes) → WhereTold f0 f1 (Begun columns bytes)
   reached f0 f1 bytes none reaches = told_from f0 f1 _ _ _ (λ old new p q. reaches_begins bytes old new p q) none reaches
 
-  pub adds_begin : (f0 f1 : Option Files) (bytes : List ℕ) → WhereTold f0 f1 (Adds columns bytes) → WhereTold f0 f1 (Begun columns bytes)
-  adds_begin f0 f1 bytes adds = told_so f0 f1 _ _ (λ old new is. inr (inr (schema_text columns, [], sym (append-nil (schema_text columns)), is))) adds
+  pub adds_begin : (f0 f1 : Option Files) (bytes : List ℕ) → WhereTold f0 f1 (AddsFiles columns bytes) → WhereTold f0 f1 (Begun columns bytes)
+  adds_begin f0 f1 bytes adds = told_so f0 f1 _ _ (λ old new is. inr (inr (schema_file_text columns, [], sym (append-nil (schema_file_text columns)), is))) adds
 
   -- ---- they stand
 
-  stands : (bytes : List ℕ) (entries : List Entry) (old new : Files) → AreColumns columns → Holds columns bytes entries → Adds columns bytes old new → StandFor new columns entries
-  stands bytes entries old new are held is = record {
-    held = subst (λ (bs : List ℕ). Holds columns bs entries)
-        (sym (ap (λ (m : Files). bytes_of m data_id) is ∙ bytes_of-other (map.insert old data_id bytes) schema_id (schema_text columns) data_id data_apart ∙ bytes_of-same old data_id bytes)) held;
-    schema = (are, ap (λ (m : Files). bytes_of m schema_id) is ∙ bytes_of-same (map.insert old data_id bytes) schema_id (schema_text columns));
+  stands : (bytes : List ℕ) (table : Table) (old new : Files) → HaveSchemaFile columns → Holds columns bytes (map.entries table) → AddsFiles columns bytes old new → StandFor new first_generation columns table
+  stands bytes table old new are held is = record {
+    held = subst (λ (bs : List ℕ). Holds columns bs (map.entries table))
+        (sym (ap (λ (m : Files). bytes_of m (data_id first_generation)) is ∙ bytes_of-other (map.insert old (data_id first_generation) bytes) (schema_id first_generation) (schema_file_text columns) (data_id first_generation) data_apart ∙ bytes_of-same old (data_id first_generation) bytes)) held;
+    schema = (are, ap (λ (m : Files). bytes_of m (schema_id first_generation)) is ∙ bytes_of-same (map.insert old (data_id first_generation) bytes) (schema_id first_generation) (schema_file_text columns));
   }
 
-  pub files_stand : (f0 f1 : Option Files) (bytes : List ℕ) (entries : List Entry) → AreColumns columns → Holds columns bytes entries → WhereTold f0 f1 (Adds columns bytes) → IfSome f1 (λ new. StandFor new columns entries)
-  files_stand f0 f1 bytes entries are held adds = told_end f0 f1 _ _ (λ old new p. stands bytes entries old new are held p) adds
+  pub files_stand : (f0 f1 : Option Files) (bytes : List ℕ) (table : Table) → HaveSchemaFile columns → Holds columns bytes (map.entries table) → WhereTold f0 f1 (AddsFiles columns bytes)
+      → IfSome f1 (λ new. StandFor new first_generation columns table)
+  files_stand f0 f1 bytes table are held adds = told_end f0 f1 _ _ (λ old new p. stands bytes table old new are held p) adds

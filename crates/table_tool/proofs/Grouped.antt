@@ -10,7 +10,7 @@ use Rattle.key_types.specs.declared.schema.ValueType.TheVariants.{Text, Blob}
 use Rattle.key_decode.proofs.Known.{string_length}
 use Rattle.data_file.specs.Listing.{Partition, IsFixed, data_bytes, head_bytes, fixed_bytes, row_bytes, rows_bytes, end_bytes}
 use Rattle.table_tool.specs.Entries.{clustering_in, partition_in, is_row, row_count}
-use Rattle.table_tool.specs.Grouping.{IsBehind, IsEntry, AreEntries, alone, with_entry, joined, grouped, fixed_by, fixed_in, rows_in, rows_by, begun_at, before_row, end_behind, row_at, written_row}
+use Rattle.table_tool.specs.Grouping.{IsBehind, IsTableEntry, AreTableEntries, alone, with_entry, joined, grouped, fixed_by, fixed_in, rows_in, rows_by, begun_at, before_row, end_behind, row_at, written_row}
 
 -- ---- what is left to write
 
@@ -210,7 +210,7 @@ pub record IsShort (columns : Columns) (entry : Entry) : Type 0 where
   pub clustering : length (clustering_in columns entry.0) ≤ 1024
   pub value : length entry.1 ≤ 65535
 
-pub entry_short : (columns : Columns) (e : Entry) → IsEntry columns e → IsShort columns e
+pub entry_short : (columns : Columns) (e : Entry) → IsTableEntry columns e → IsShort columns e
 entry_short columns e is =
     let behind = behind_short columns (clustering_in columns e.0) e.1 is.behind in
     record { partition = string_length columns.partition (partition_in columns e.0) is.partition; clustering = behind.0; value = behind.1 }
@@ -239,7 +239,7 @@ written_few [] value c v = omega arith
 written_few (b ∷ bs) value c v = omega (arith, length-append (head_bytes (b ∷ bs)) (head_bytes value))
 
 module _ (columns : Columns) (static : Option ValueType) where
-  pub short : (last : Option (List ℕ)) (es : List Entry) → AreEntries columns es → length (left_bytes static last (grouped columns es)) ≤ 140000 * length es + 1
+  pub short : (last : Option (List ℕ)) (es : List Entry) → AreTableEntries columns es → length (left_bytes static last (grouped columns es)) ≤ 140000 * length es + 1
   short None [] h = omega arith
   short (Some last) [] h = omega arith
   short last (e ∷ es) (h, hs) =
@@ -259,7 +259,7 @@ module _ (columns : Columns) (static : Option ValueType) where
       )
 
   -- all of it is short enough for positions
-  pub whole_short : (es : List Entry) → AreEntries columns es → length es ≤ 1000000 → length (data_bytes static (grouped columns es)) < 2 ^ 57
+  pub whole_short : (es : List Entry) → AreTableEntries columns es → length es ≤ 1000000 → length (data_bytes static (grouped columns es)) < 2 ^ 57
   whole_short es h count = omega (arith, short None es h)
 
 -- ---- a step over entries
@@ -299,10 +299,10 @@ module _ (columns : Columns) (last : Option (List ℕ)) {es rest : List Entry} {
   pub rows_split : row_count columns es ≡ row_at clustering + row_count columns rest
   rows_split = rw (is, clustering_is, string_is) refl
 
-  pub entries_split : AreEntries columns es → IsEntry columns (key, value) × AreEntries columns rest
-  entries_split h = subst (AreEntries columns) is h
+  pub entries_split : AreTableEntries columns es → IsTableEntry columns (key, value) × AreTableEntries columns rest
+  entries_split h = subst (AreTableEntries columns) is h
 
-  pub short_split : AreEntries columns es → (length partition ≤ 1024) × (length clustering ≤ 1024) × (length bytes ≤ 65535)
+  pub short_split : AreTableEntries columns es → (length partition ≤ 1024) × (length clustering ≤ 1024) × (length bytes ≤ 65535)
   short_split h =
       let small = entry_short columns (key, value) (entries_split h).0 in
       rw (bytes_is, partition_is, clustering_is, string_is) (small.partition, small.clustering, small.value)

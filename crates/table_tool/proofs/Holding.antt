@@ -19,8 +19,8 @@ use Rattle.key_decode.specs.Strings.{IsStringOf}
 use Rattle.key_decode.proofs.Known.{taken}
 use Rattle.data_file.specs.Listing.{Row, Partition, IsFixed, AreRows, data_bytes, ArePartitions}
 use Rattle.table_tool.specs.Entries.{clustering_in, partition_in}
-use Rattle.table_tool.specs.Grouping.{IsBehind, IsEntry, AreEntries, alone, with_entry, joined, grouped, fixed_by, fixed_in, rows_by, rows_in}
-use Rattle.table_tool.specs.Standing.{Ascend, RowsAscend, Holds, entries_in, fixed_entries, row_entries}
+use Rattle.table_tool.specs.Grouping.{IsBehind, IsTableEntry, AreTableEntries, alone, with_entry, joined, grouped, fixed_by, fixed_in, rows_by, rows_in}
+use Rattle.table_files.specs.Standing.{Holds, RowsAscend, StringsAscend, entries_in, row_entries, static_entries}
 
 -- ---- the order of strings that are put together
 
@@ -63,7 +63,7 @@ front_less ts p q is_p is_q apart (inl less) = less
 front_less ts p q is_p is_q apart (inr (inl (tail, e))) = absurd (apart (one_string ts q p tail is_q is_p e))
 front_less ts p q is_p is_q apart (inr (inr (tail, e))) = absurd (apart (sym (one_string ts p q tail is_p is_q e)))
 
-module _ (columns : Columns) (e f : Entry) (is_e : IsEntry columns e) (is_f : IsEntry columns f) (less : string_cmp e.0 f.0 ≡ Less) where
+module _ (columns : Columns) (e f : Entry) (is_e : IsTableEntry columns e) (is_f : IsTableEntry columns f) (less : string_cmp e.0 f.0 ≡ Less) where
   parts_less : string_cmp (partition_in columns e.0 ++ clustering_in columns e.0) (partition_in columns f.0 ++ clustering_in columns f.0) ≡ Less
   parts_less = ap (λ (s : List ℕ). string_cmp s (partition_in columns f.0 ++ clustering_in columns f.0)) is_e.parts ∙ ap (string_cmp e.0) is_f.parts ∙ less
 
@@ -102,34 +102,34 @@ one_of_both (b ∷ c) value rows is empty = cc
 
 -- in front of rows of which the first is above it
 rows_go_on : (c value d w : List ℕ) (rows others : List Row) → string_cmp c d ≡ Less → rows ≡ record { clustering = d; value = w } ∷ others
-    → Ascend (map (λ (r : Row). r.clustering) rows) → Ascend (map (λ (r : Row). r.clustering) (rows_by c value ++ rows))
+    → StringsAscend (map (λ (r : Row). r.clustering) rows) → StringsAscend (map (λ (r : Row). r.clustering) (rows_by c value ++ rows))
 rows_go_on [] value d w rows others less is ascend = ascend
 rows_go_on (b ∷ c) value d w rows others less is ascend =
-    let behind : Ascend (map (λ (r : Row). r.clustering) (record { clustering = d; value = w } ∷ others)) = subst (λ (rs : List Row). Ascend (map (λ (r : Row). r.clustering) rs)) is ascend in
-    subst (λ (rs : List Row). Ascend ((b ∷ c) ∷ map (λ (r : Row). r.clustering) rs)) (sym is) (less, behind)
+    let behind : StringsAscend (map (λ (r : Row). r.clustering) (record { clustering = d; value = w } ∷ others)) = subst (λ (rs : List Row). StringsAscend (map (λ (r : Row). r.clustering) rs)) is ascend in
+    subst (λ (rs : List Row). StringsAscend ((b ∷ c) ∷ map (λ (r : Row). r.clustering) rs)) (sym is) (less, behind)
 
 -- the row of an entry alone
-row_alone : (c value : List ℕ) → Ascend (map (λ (r : Row). r.clustering) (rows_by c value))
+row_alone : (c value : List ℕ) → StringsAscend (map (λ (r : Row). r.clustering) (rows_by c value))
 row_alone [] value = tt
 row_alone (b ∷ c) value = tt
 
 -- its entry stands before those of the rows
 entry_first : (key c value : List ℕ) (rows : List Row) (rest : List Entry)
-    → fixed_entries key (fixed_by c value) ++ (row_entries key (rows_by c value ++ rows) ++ rest) ≡ (key ++ c, value) ∷ (row_entries key rows ++ rest)
+    → static_entries key (fixed_by c value) ++ (row_entries key (rows_by c value ++ rows) ++ rest) ≡ (key ++ c, value) ∷ (row_entries key rows ++ rest)
 entry_first key [] value rows rest = ap (λ (k : List ℕ). (k, value) ∷ (row_entries key rows ++ rest)) (sym (append-nil key))
 entry_first key (b ∷ c) value rows rest = refl
 
-entry_back : (columns : Columns) (e : Entry) (key : List ℕ) → IsEntry columns e → key ≡ partition_in columns e.0 → (key ++ clustering_in columns e.0, e.1) ≡ e
+entry_back : (columns : Columns) (e : Entry) (key : List ℕ) → IsTableEntry columns e → key ≡ partition_in columns e.0 → (key ++ clustering_in columns e.0, e.1) ≡ e
 entry_back columns e key is key_is = ap (λ (s : List ℕ). (s, e.1)) (ap (λ (k : List ℕ). k ++ clustering_in columns e.0) key_is ∙ is.parts)
 
 -- the partition of one entry
 alone_some : (columns : Columns) (e : Entry) → fixed_in columns e ≡ None → rows_in columns e ≢ []
 alone_some columns e is empty = one_of_both (clustering_in columns e.0) e.1 [] is (append-nil (rows_in columns e) ∙ empty)
 
-alone_first : (columns : Columns) (e : Entry) (ps : List Partition) → IsEntry columns e → entries_in (alone columns e ∷ ps) ≡ e ∷ entries_in ps
+alone_first : (columns : Columns) (e : Entry) (ps : List Partition) → IsTableEntry columns e → entries_in (alone columns e ∷ ps) ≡ e ∷ entries_in ps
 alone_first columns e ps is =
     let key : List ℕ = partition_in columns e.0 in
-    ap (λ (rs : List Row). fixed_entries key (fixed_in columns e) ++ (row_entries key rs ++ entries_in ps)) (sym (append-nil (rows_in columns e)))
+    ap (λ (rs : List Row). static_entries key (fixed_in columns e) ++ (row_entries key rs ++ entries_in ps)) (sym (append-nil (rows_in columns e)))
     ∙ entry_first key (clustering_in columns e.0) e.1 [] (entries_in ps)
     ∙ ap (λ (x : Entry). x ∷ entries_in ps) (entry_back columns e key is refl)
 
@@ -153,14 +153,14 @@ record Tidy (columns : Columns) (e : Entry) (es : List Entry) (ps : List Partiti
   fixed_is : head.fixed ≡ fixed_in columns e
   others : List Row
   rows_are : head.rows ≡ rows_in columns e ++ others
-  ascend : Ascend (map (λ p. p.key) ps)
+  ascend : StringsAscend (map (λ p. p.key) ps)
   rows : RowsAscend ps
   same : entries_in ps ≡ e ∷ es
 
-module _ (columns : Columns) (e f : Entry) (es : List Entry) (is_e : IsEntry columns e) (is_f : IsEntry columns f) (less : string_cmp e.0 f.0 ≡ Less)
+module _ (columns : Columns) (e f : Entry) (es : List Entry) (is_e : IsTableEntry columns e) (is_f : IsTableEntry columns f) (less : string_cmp e.0 f.0 ≡ Less)
     (head : Partition) (tail : List Partition) (others : List Row)
     (key_is : head.key ≡ partition_in columns f.0) (fixed_is : head.fixed ≡ fixed_in columns f) (rows_are : head.rows ≡ rows_in columns f ++ others)
-    (ascend : Ascend (map (λ (p : Partition). p.key) (head ∷ tail))) (rows : RowsAscend (head ∷ tail)) (same : entries_in (head ∷ tail) ≡ f ∷ es) where
+    (ascend : StringsAscend (map (λ (p : Partition). p.key) (head ∷ tail))) (rows : RowsAscend (head ∷ tail)) (same : entries_in (head ∷ tail) ≡ f ∷ es) where
   same_partition : pointwise nat_eq head.key (partition_in columns e.0) ≡ true → Tidy columns e (f ∷ es) (with_entry columns e head ∷ tail)
   same_partition t =
       let is_key : head.key ≡ partition_in columns e.0 = same_text head.key (partition_in columns e.0) (sym t) in
@@ -169,7 +169,7 @@ module _ (columns : Columns) (e f : Entry) (es : List Entry) (is_e : IsEntry col
       let unfixed : head.fixed ≡ None = fixed_is ∙ row_unfixed (clustering_in columns f.0) f.1 some in
       let one : head.rows ≡ record { clustering = clustering_in columns f.0; value = f.1 } ∷ others = rows_are ∙ ap (λ (rs : List Row). rs ++ others) (one_row (clustering_in columns f.0) f.1 some) in
       let behind : row_entries head.key head.rows ++ entries_in tail ≡ f ∷ es =
-      ap (λ (fixed : Option (List ℕ)). fixed_entries head.key fixed ++ (row_entries head.key head.rows ++ entries_in tail)) (sym unfixed) ∙ same in
+      ap (λ (fixed : Option (List ℕ)). static_entries head.key fixed ++ (row_entries head.key head.rows ++ entries_in tail)) (sym unfixed) ∙ same in
       record {
         head = with_entry columns e head;
         tail = tail;
@@ -213,15 +213,15 @@ module _ (columns : Columns) (e f : Entry) (es : List Entry) (is_e : IsEntry col
   tidy_by false t = new_partition t
 
 module _ (columns : Columns) where
-  tidy_more : (e f : Entry) (es : List Entry) (ps : List Partition) → IsEntry columns e → IsEntry columns f → string_cmp e.0 f.0 ≡ Less → Tidy columns f es ps
+  tidy_more : (e f : Entry) (es : List Entry) (ps : List Partition) → IsTableEntry columns e → IsTableEntry columns f → string_cmp e.0 f.0 ≡ Less → Tidy columns f es ps
       → Tidy columns e (f ∷ es) (joined columns e ps)
   tidy_more e f es ps is_e is_f less d =
       subst (λ (qs : List Partition). Tidy columns e (f ∷ es) (joined columns e qs)) (sym d.is)
       (tidy_by columns e f es is_e is_f less d.head d.tail d.others d.key_is d.fixed_is d.rows_are
-      (subst (λ (qs : List Partition). Ascend (map (λ (p : Partition). p.key) qs)) d.is d.ascend) (subst RowsAscend d.is d.rows) (ap entries_in (sym d.is) ∙ d.same)
+      (subst (λ (qs : List Partition). StringsAscend (map (λ (p : Partition). p.key) qs)) d.is d.ascend) (subst RowsAscend d.is d.rows) (ap entries_in (sym d.is) ∙ d.same)
       (pointwise nat_eq d.head.key (partition_in columns e.0)) refl)
 
-  tidy : (e : Entry) (es : List Entry) → AreEntries columns (e ∷ es) → T (is_sorted string_cmp (e ∷ es)) → Tidy columns e es (grouped columns (e ∷ es))
+  tidy : (e : Entry) (es : List Entry) → AreTableEntries columns (e ∷ es) → T (is_sorted string_cmp (e ∷ es)) → Tidy columns e es (grouped columns (e ∷ es))
   tidy e [] h sorted = record {
     head = alone columns e;
     tail = [];
@@ -239,15 +239,15 @@ module _ (columns : Columns) where
       let less : string_cmp e.0 f.0 ≡ Less = less_is (string_cmp e.0 f.0) (both (is_lt (string_cmp e.0 f.0)) (below_all string_cmp e.0 es) tests.0).0 in
       tidy_more e f es (grouped columns (f ∷ es)) h.0 h.1.0 less (tidy f es h.1 tests.1)
 
-  pub keys_ascend : (es : List Entry) → AreEntries columns es → T (is_sorted string_cmp es) → Ascend (map (λ (p : Partition). p.key) (grouped columns es))
+  pub keys_ascend : (es : List Entry) → AreTableEntries columns es → T (is_sorted string_cmp es) → StringsAscend (map (λ (p : Partition). p.key) (grouped columns es))
   keys_ascend [] h sorted = tt
   keys_ascend (e ∷ es) h sorted = (tidy e es h sorted).ascend
 
-  pub rows_ascend : (es : List Entry) → AreEntries columns es → T (is_sorted string_cmp es) → RowsAscend (grouped columns es)
+  pub rows_ascend : (es : List Entry) → AreTableEntries columns es → T (is_sorted string_cmp es) → RowsAscend (grouped columns es)
   rows_ascend [] h sorted = tt
   rows_ascend (e ∷ es) h sorted = (tidy e es h sorted).rows
 
-  pub back : (es : List Entry) → AreEntries columns es → T (is_sorted string_cmp es) → entries_in (grouped columns es) ≡ es
+  pub back : (es : List Entry) → AreTableEntries columns es → T (is_sorted string_cmp es) → entries_in (grouped columns es) ≡ es
   back [] h sorted = refl
   back (e ∷ es) h sorted = (tidy e es h sorted).same
 
@@ -269,21 +269,21 @@ module _ (columns : Columns) where
   alone_rows [] value is = tt
   alone_rows (b ∷ c) value is = (is, tt)
 
-  are_by : (t : Bool) (e : Entry) (p : Partition) (ps : List Partition) → IsEntry columns e → ArePartitions columns (p ∷ ps)
+  are_by : (t : Bool) (e : Entry) (p : Partition) (ps : List Partition) → IsTableEntry columns e → ArePartitions columns (p ∷ ps)
       → ArePartitions columns (if t then with_entry columns e p ∷ ps else alone columns e ∷ p ∷ ps)
   are_by true e p ps h are = (are.0, entry_fixed (clustering_in columns e.0) e.1 h.behind, entry_rows (clustering_in columns e.0) e.1 p.rows h.behind are.2, are.3)
   are_by false e p ps h are = (h.partition, entry_fixed (clustering_in columns e.0) e.1 h.behind, alone_rows (clustering_in columns e.0) e.1 h.behind, are)
 
-  one_more : (e : Entry) (ps : List Partition) → IsEntry columns e → ArePartitions columns ps → ArePartitions columns (joined columns e ps)
+  one_more : (e : Entry) (ps : List Partition) → IsTableEntry columns e → ArePartitions columns ps → ArePartitions columns (joined columns e ps)
   one_more e [] h are = (h.partition, entry_fixed (clustering_in columns e.0) e.1 h.behind, alone_rows (clustering_in columns e.0) e.1 h.behind, tt)
   one_more e (p ∷ ps) h are = are_by (pointwise nat_eq p.key (partition_in columns e.0)) e p ps h are
 
-  pub are_partitions : (es : List Entry) → AreEntries columns es → ArePartitions columns (grouped columns es)
+  pub are_partitions : (es : List Entry) → AreTableEntries columns es → ArePartitions columns (grouped columns es)
   are_partitions [] h = tt
   are_partitions (e ∷ es) h = one_more e (grouped columns es) h.0 (are_partitions es h.1)
 
   -- the data of entries that ascend hold them
-  abbrev pub holds : (es : List Entry) → AreEntries columns es → T (is_sorted string_cmp es) → Holds columns (data_bytes columns.static_value (grouped columns es)) es
+  abbrev pub holds : (es : List Entry) → AreTableEntries columns es → T (is_sorted string_cmp es) → Holds columns (data_bytes columns.static_value (grouped columns es)) es
   holds es h sorted = record {
     partitions = grouped columns es;
     listed = (refl, are_partitions es h);

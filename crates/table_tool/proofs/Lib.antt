@@ -15,3 +15,6 @@ pub mod PrintedLemmas
 pub mod RowLemmas
 pub mod Writes
 pub mod PartsLemmas
+mod RunLemmas
+mod Headline
+mod ListLemmas

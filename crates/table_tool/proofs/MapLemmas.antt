@@ -8,7 +8,7 @@ use Rattle.std.specs.BTreeMap.{insert_entry}
 use Rattle.std.specs.FinMap as map
 use Rattle.key_types.specs.Table.{Entry, Table, string_cmp, table_after, table_of}
 use Rattle.script_text.specs.Puts.{Put}
-use Rattle.script_text.specs.Script.{entry_of, entries_of}
+use Rattle.script_text.specs.Script.{entry_of_put, entries_of}
 use Rattle.table_tool.specs.Rows.{rows_after}
 
 -- an insertion into the list of the entries
@@ -36,4 +36,4 @@ rows_after-append rows (x ∷ xs) ys = rows_after-append (insert_entry string_cm
 
 -- a batch, and those behind it
 pub more_puts : (rows : List Entry) (xs ys : List Put) → rows_after rows (entries_of (xs ++ ys)) ≡ rows_after (rows_after rows (entries_of xs)) (entries_of ys)
-more_puts rows xs ys = ap (rows_after rows) (map-append entry_of xs ys) ∙ rows_after-append rows (entries_of xs) (entries_of ys)
+more_puts rows xs ys = ap (rows_after rows) (map-append entry_of_put xs ys) ∙ rows_after-append rows (entries_of xs) (entries_of ys)

@@ -8,7 +8,7 @@ use Rattle.key_decode.specs.Reading.{values_at}
 use Rattle.key_decode.specs.Strings.{IsStringOf, BeginsString}
 use Rattle.key_decode.proofs.Known.{read_of, taken}
 use Rattle.table_tool.specs.Entries.{partition_in, clustering_in, has_some, rest_of}
-use Rattle.table_tool.specs.Grouping.{IsEntry}
+use Rattle.table_tool.specs.Grouping.{IsTableEntry}
 use Rattle.table_tool.proofs.PrintedLemmas.{some_key}
 
 module _ (columns : Columns) where
@@ -25,7 +25,7 @@ module _ (columns : Columns) where
       let front : length key - length (clustering_in columns key) ≡ length string = omega (arith, ap length behind, all) in
       (ap (λ (n : ℕ). take n key) front ∙ ap (take (length string)) e ∙ take-append_seam string rest, behind)
 
-  pub entry_begins : (entry : Entry) → IsEntry columns entry → BeginsString columns.partition entry.0
+  pub entry_begins : (entry : Entry) → IsTableEntry columns entry → BeginsString columns.partition entry.0
   entry_begins entry is = (partition_in columns entry.0, clustering_in columns entry.0, (is.partition, sym is.parts))
 
   -- parted at the length of the partition's string

@@ -14,9 +14,9 @@ use Rattle.key_text.specs.Written.{equals_literal}
 use Rattle.key_printing.specs.Texts.{IsTextOf, PutsText}
 use Rattle.table_tool.specs.Entries.{has_some, is_row, rest_of, row_count}
 use Rattle.table_tool.specs.Grouping.{row_at}
-use Rattle.table_tool.specs.Standing.{fixed_entries}
 use Rattle.table_tool.specs.Lines.{EndsLine}
 use Rattle.table_tool.specs.Printed.{entry_line, entry_lines, line_behind, line_by, row_by, row_line, static_by, static_line}
+use Rattle.table_files.specs.Standing.{static_entries}
 
 pub ok_so : {T E : Type 0} (r : Result T E) (P Q : Type 0) → (P → Q) → OnOk r P → OnOk r Q
 ok_so (Ok x) P Q f p = f p
@@ -103,7 +103,7 @@ module _ (columns : Columns) where
 
   -- the static value of a partition, where it has one
   pub fixed_ended : (key text value before so_far whole : List ℕ) → IsTextOf columns.partition key text → so_far ≡ before ++ text → EndsLine columns [] value so_far whole
-      → whole ≡ before ++ entry_lines columns (fixed_entries key (Some value))
+      → whole ≡ before ++ entry_lines columns (static_entries key (Some value))
   fixed_ended key text value before so_far whole is put ends =
       ends before key text is put ∙ ap (λ t. before ++ t) (ap (λ (s : List ℕ). entry_line columns (s, value)) (append-nil key) ∙ sym (append-nil (entry_line columns (key, value))))
 
@@ -113,7 +113,7 @@ module _ (columns : Columns) where
   is_row_behind key text rest value (partition, fits, is, spelled) =
       ap (λ (k : List ℕ). is_row columns (k ++ rest, value)) is ∙ is_row_entry partition rest value fits
 
-  pub fixed_count : (key text : List ℕ) (fixed : Option (List ℕ)) → IsTextOf columns.partition key text → row_count columns (fixed_entries key fixed) ≡ 0
+  pub fixed_count : (key text : List ℕ) (fixed : Option (List ℕ)) → IsTextOf columns.partition key text → row_count columns (static_entries key fixed) ≡ 0
   fixed_count key text None is = refl
   fixed_count key text (Some value) is =
       ap (λ (b : Bool). (if b then 1 else 0) + 0) (ap (λ (k : List ℕ). is_row columns (k, value)) (sym (append-nil key)) ∙ is_row_behind key text [] value is)

@@ -17,11 +17,11 @@ use Rattle.key_decode.proofs.Known.{fitting}
 use Rattle.data_file.specs.Listing.{IsFixed}
 use Rattle.script_text.specs.Puts.{Put}
 use Rattle.script_text.specs.declared.script.Script.{Script}
-use Rattle.script_text.specs.Script.{entries_of, entry_of, puts_of}
-use Rattle.script_text.specs.Laws.{ArePuts, IsAccepted, IsKey, IsPut, IsRowPut, IsStaticPut}
+use Rattle.script_text.specs.Script.{entries_of, entry_of_put, puts_of}
+use Rattle.script_text.specs.Laws.{ArePuts, IsAccepted, IsKey, IsSchemaPut, IsRowPut, IsStaticPut}
 use Rattle.script_text.proofs.Accepted.{accepted_script}
 use Rattle.table_tool.specs.Entries.{clustering_in}
-use Rattle.table_tool.specs.Grouping.{AreEntries, IsBehind, IsEntry}
+use Rattle.table_tool.specs.Grouping.{AreTableEntries, IsBehind, IsTableEntry}
 use Rattle.table_tool.specs.Input.{IsSpelled}
 use Rattle.table_tool.specs.Rows.{rows_after, rows_of}
 use Rattle.table_tool.proofs.MapLemmas.{rows_after_is}
@@ -41,7 +41,7 @@ put_behind columns put (inl (key, value)) = row_behind columns put.clustering pu
 put_behind columns put (inr (type, fixed, empty, value)) =
     subst (λ (c : List ℕ). IsBehind columns c put.value) (sym empty) (subst (λ (static : Option ValueType). IsFixed static (Some put.value)) (sym fixed) value)
 
-of_put : (columns : Columns) (put : Put) → IsPut columns put → IsEntry columns (entry_of put)
+of_put : (columns : Columns) (put : Put) → IsSchemaPut columns put → IsTableEntry columns (entry_of_put put)
 of_put columns put (key, behind) =
     let string : IsStringOf columns.partition put.partition = key_is_string columns.partition put.partition key in
     let parts = parted columns (put.partition ++ put.clustering) put.partition put.clustering string refl in
@@ -52,30 +52,30 @@ of_put columns put (key, behind) =
     }
 
 module _ (columns : Columns) where
-  of_puts : (puts : List Put) → ArePuts columns puts → AreEntries columns (entries_of puts)
+  of_puts : (puts : List Put) → ArePuts columns puts → AreTableEntries columns (entries_of puts)
   of_puts [] h = tt
   of_puts (put ∷ puts) h = (of_put columns put h.0, of_puts puts h.1)
 
   -- the same key with another value
-  with_value : (e : Entry) (key value : List ℕ) → string_cmp key e.0 ≡ Equal → IsEntry columns (key, value) → IsEntry columns (e.0, value)
-  with_value e key value tie new = subst (λ (k : List ℕ). IsEntry columns (k, value)) (map.slice_cmp-IsAntisymmetric map.nat_cmp-IsAntisymmetric key e.0 tie) new
+  with_value : (e : Entry) (key value : List ℕ) → string_cmp key e.0 ≡ Equal → IsTableEntry columns (key, value) → IsTableEntry columns (e.0, value)
+  with_value e key value tie new = subst (λ (k : List ℕ). IsTableEntry columns (k, value)) (map.slice_cmp-IsAntisymmetric map.nat_cmp-IsAntisymmetric key e.0 tie) new
 
-  put_by : (o : Ordering) (e : Entry) (key value : List ℕ) (es rest : List Entry) → string_cmp key e.0 ≡ o → IsEntry columns (key, value) → AreEntries columns (e ∷ es) → AreEntries columns rest
-      → AreEntries columns (match_ordering o ((key, value) ∷ e ∷ es) ((e.0, value) ∷ es) (e ∷ rest))
+  put_by : (o : Ordering) (e : Entry) (key value : List ℕ) (es rest : List Entry) → string_cmp key e.0 ≡ o → IsTableEntry columns (key, value) → AreTableEntries columns (e ∷ es) → AreTableEntries columns rest
+      → AreTableEntries columns (match_ordering o ((key, value) ∷ e ∷ es) ((e.0, value) ∷ es) (e ∷ rest))
   put_by Less e key value es rest is new h behind = (new, h)
   put_by Equal e key value es rest is new h behind = (with_value e key value is new, h.1)
   put_by Greater e key value es rest is new h behind = (h.0, behind)
 
-  put_are : (key value : List ℕ) (es : List Entry) → IsEntry columns (key, value) → AreEntries columns es → AreEntries columns (insert_entry string_cmp es key value)
+  put_are : (key value : List ℕ) (es : List Entry) → IsTableEntry columns (key, value) → AreTableEntries columns es → AreTableEntries columns (insert_entry string_cmp es key value)
   put_are key value [] new h = (new, tt)
   put_are key value (e ∷ es) new h = put_by (string_cmp key e.0) e key value es (insert_entry string_cmp es key value) refl new h (put_are key value es new h.1)
 
-  after_are : (rows puts : List Entry) → AreEntries columns rows → AreEntries columns puts → AreEntries columns (rows_after rows puts)
+  after_are : (rows puts : List Entry) → AreTableEntries columns rows → AreTableEntries columns puts → AreTableEntries columns (rows_after rows puts)
   after_are rows [] h new = h
   after_are rows (put ∷ puts) h new = after_are (insert_entry string_cmp rows put.0 put.1) puts (put_are put.0 put.1 rows new.0 h) new.1
 
-  rows_are : (puts : List Put) → ArePuts columns puts → AreEntries columns (rows_of puts)
-  rows_are puts h = subst (AreEntries columns) (sym (rows_after_is (entries_of puts))) (after_are [] (entries_of puts) tt (of_puts puts h))
+  rows_are : (puts : List Put) → ArePuts columns puts → AreTableEntries columns (rows_of puts)
+  rows_are puts h = subst (AreTableEntries columns) (sym (rows_after_is (entries_of puts))) (after_are [] (entries_of puts) tt (of_puts puts h))
 
 -- ---- they are no more than the puts
 
@@ -94,7 +94,7 @@ after_few rows [] = omega arith
 after_few rows (put ∷ puts) = omega (arith, after_few (insert_entry string_cmp rows put.0 put.1) puts, put_few put.0 put.1 rows)
 
 rows_few : (puts : List Put) → length (rows_of puts) ≤ length puts
-rows_few puts = omega (arith, ap length (rows_after_is (entries_of puts)), after_few [] (entries_of puts), length-map puts entry_of)
+rows_few puts = omega (arith, ap length (rows_after_is (entries_of puts)), after_few [] (entries_of puts), length-map puts entry_of_put)
 
 -- ---- of a script
 
@@ -102,8 +102,8 @@ module _ (columns : Columns) where
   pub script_accepted : (script : Script) → IsSpelled columns script → IsAccepted columns script
   script_accepted script (text, is) = accepted_script columns text script is
 
-  pub script_rows_are : (script : Script) (rows : List Entry) → IsSpelled columns script → rows ≡ rows_of (puts_of script.batches) → AreEntries columns rows
-  script_rows_are script rows h is = subst (AreEntries columns) (sym is) (rows_are columns (puts_of script.batches) (script_accepted script h).are)
+  pub script_rows_are : (script : Script) (rows : List Entry) → IsSpelled columns script → rows ≡ rows_of (puts_of script.batches) → AreTableEntries columns rows
+  script_rows_are script rows h is = subst (AreTableEntries columns) (sym is) (rows_are columns (puts_of script.batches) (script_accepted script h).are)
 
   pub script_rows_few : (script : Script) (rows : List Entry) → IsSpelled columns script → rows ≡ rows_of (puts_of script.batches) → length rows ≤ 1000000
   script_rows_few script rows h is = omega (arith, ap length is, rows_few (puts_of script.batches), (script_accepted script h).few)

@@ -5,6 +5,7 @@ use Rattle.std.proofs.Math.Seq.{take-append_seam, take-append-add}
 use Rattle.std.specs.Prelude.{IfSome}
 use Rattle.outside.specs.Files.{Files, bytes_of}
 use Rattle.outside.specs.Told.{WhereTold}
+use Rattle.outside.specs.declared.store.FileId.{FileId}
 use Rattle.key_types.specs.Table.{Entry}
 use Rattle.bti_nodes.specs.declared.damage.Damage.{Damage}
 use Rattle.key_types.specs.Columns.{Columns}
@@ -15,11 +16,12 @@ use Rattle.table_tool.specs.declared.scan.Turn.TheVariants.{On, Stopped}
 use Rattle.table_tool.specs.Printed.{entry_lines}
 use Rattle.table_tool.specs.Scanned.{Holding, IsBounded, IsPart, TurnIs}
 use Rattle.table_tool.specs.Outcome.{AppendsPrefix}
-use Rattle.table_tool.specs.Standing.{data_id}
-use Rattle.table_tool.specs.Steps.{HasKey, Moves, Shows, StepIs, inside_of}
-use Rattle.table_tool.specs.Walk.{Walks, Passes, Stops}
+use Rattle.table_tool.specs.Steps.{HasKey, Moves, PrintsEntries, StepIs, inside_of}
+use Rattle.table_files.specs.Walk.{Walks, Passes, Stops}
 use Rattle.table_tool.specs.Window.{Unread, Continues}
 use Rattle.table_tool.proofs.PrintedLemmas.{count_append, lines_append}
+use Rattle.table_files.specs.Names.{data_id}
+use Rattle.table_tool.specs.First.{first_generation}
 
 -- ---- parts of a walk, one after the other
 
@@ -47,25 +49,31 @@ told_piece written written' piece text same told = subst (λ (p : List ℕ). Whe
 
 -- ---- turns
 
+-- what was read of a file of this name
+pub same_file : (files : Option Files) (window filled : Unread) {file : FileId} → file ≡ data_id first_generation
+    → IfSome files (λ m. Continues (bytes_of m file) window → Continues (bytes_of m file) filled)
+    → IfSome files (λ m. Continues (bytes_of m (data_id first_generation)) window → Continues (bytes_of m (data_id first_generation)) filled)
+same_file files window filled same told = subst (λ (f : FileId). IfSome files (λ m. Continues (bytes_of m f) window → Continues (bytes_of m f) filled)) same told
+
 module _ (columns : Columns) (files : Option Files) (scan : Scan) (filled : Unread) (place : filled.at ≡ scan.walk.window.at) (limit : filled.limit ≡ scan.walk.window.limit)
-    (told : IfSome files (λ m. Continues (bytes_of m data_id) scan.walk.window → Continues (bytes_of m data_id) filled)) where
+    (told : IfSome files (λ m. Continues (bytes_of m (data_id first_generation)) scan.walk.window → Continues (bytes_of m (data_id first_generation)) filled)) where
   -- the walk behind the read
   abbrev ahead : Walk
   ahead = record { window = filled; key = scan.walk.key; text = scan.walk.text; inside = scan.walk.inside; stop = scan.walk.stop }
 
   walked_on : (fs : Option Files) (walk' : Walk) (entries more : List Entry) → Moves columns ahead walk' more
-      → IfSome fs (λ m. Continues (bytes_of m data_id) scan.walk.window → Continues (bytes_of m data_id) filled)
-      → IfSome fs (λ m. Continues (bytes_of m data_id) scan.walk.window × Passes columns (bytes_of m data_id) None 0 entries (inside_of scan.walk) scan.walk.window.at)
-      → IfSome fs (λ m. Continues (bytes_of m data_id) walk'.window × Passes columns (bytes_of m data_id) None 0 (entries ++ more) (inside_of walk') walk'.window.at)
+      → IfSome fs (λ m. Continues (bytes_of m (data_id first_generation)) scan.walk.window → Continues (bytes_of m (data_id first_generation)) filled)
+      → IfSome fs (λ m. Continues (bytes_of m (data_id first_generation)) scan.walk.window × Passes columns (bytes_of m (data_id first_generation)) None 0 entries (inside_of scan.walk) scan.walk.window.at)
+      → IfSome fs (λ m. Continues (bytes_of m (data_id first_generation)) walk'.window × Passes columns (bytes_of m (data_id first_generation)) None 0 (entries ++ more) (inside_of walk') walk'.window.at)
   walked_on None walk' entries more moves read walked = tt
   walked_on (Some m) walk' entries more moves read walked =
-      let next = moves.3 (bytes_of m data_id) (read walked.0) in
-      let from : Passes columns (bytes_of m data_id) None 0 entries (inside_of scan.walk) filled.at =
-      subst (λ (n : ℕ). Passes columns (bytes_of m data_id) None 0 entries (inside_of scan.walk) n) (sym place) walked.1 in
-      (next.0, passes_on columns (bytes_of m data_id) entries (inside_of scan.walk) filled.at from (inside_of walk') walk'.window.at more next.1)
+      let next = moves.3 (bytes_of m (data_id first_generation)) (read walked.0) in
+      let from : Passes columns (bytes_of m (data_id first_generation)) None 0 entries (inside_of scan.walk) filled.at =
+      subst (λ (n : ℕ). Passes columns (bytes_of m (data_id first_generation)) None 0 entries (inside_of scan.walk) n) (sym place) walked.1 in
+      (next.0, passes_on columns (bytes_of m (data_id first_generation)) entries (inside_of scan.walk) filled.at from (inside_of walk') walk'.window.at more next.1)
 
   -- more entries are printed, so many of them of rows
-  shown_turn : (walk' : Walk) (text' : List ℕ) (rows rows' : ℕ) → rows' ≡ scan.rows + rows → Shows columns rows ahead walk' scan.text text'
+  shown_turn : (walk' : Walk) (text' : List ℕ) (rows rows' : ℕ) → rows' ≡ scan.rows + rows → PrintsEntries columns rows ahead walk' scan.text text'
       → TurnIs columns files scan (record { walk = walk'; text = text'; rows = rows' }) On
   shown_turn walk' text' rows rows' count (more, of_rows, line, moves) = (
     omega (arith, moves.0, place),
@@ -92,14 +100,14 @@ module _ (columns : Columns) (files : Option Files) (scan : Scan) (filled : Unre
 
   stopped : (fs : Option Files) (entries : List Entry) (stop : Option Damage)
       → ((file : List ℕ) → Continues file filled → Stops columns file (inside_of scan.walk) filled.at [] stop)
-      → IfSome fs (λ m. Continues (bytes_of m data_id) scan.walk.window → Continues (bytes_of m data_id) filled)
-      → IfSome fs (λ m. Continues (bytes_of m data_id) scan.walk.window × Passes columns (bytes_of m data_id) None 0 entries (inside_of scan.walk) scan.walk.window.at)
-      → IfSome fs (λ m. Stops columns (bytes_of m data_id) None 0 entries stop)
+      → IfSome fs (λ m. Continues (bytes_of m (data_id first_generation)) scan.walk.window → Continues (bytes_of m (data_id first_generation)) filled)
+      → IfSome fs (λ m. Continues (bytes_of m (data_id first_generation)) scan.walk.window × Passes columns (bytes_of m (data_id first_generation)) None 0 entries (inside_of scan.walk) scan.walk.window.at)
+      → IfSome fs (λ m. Stops columns (bytes_of m (data_id first_generation)) None 0 entries stop)
   stopped None entries stop halts read walked = tt
   stopped (Some m) entries stop halts read walked =
-      let from : Passes columns (bytes_of m data_id) None 0 entries (inside_of scan.walk) filled.at =
-      subst (λ (n : ℕ). Passes columns (bytes_of m data_id) None 0 entries (inside_of scan.walk) n) (sym place) walked.1 in
-      passes_stop columns (bytes_of m data_id) entries (inside_of scan.walk) filled.at from stop (halts (bytes_of m data_id) (read walked.0))
+      let from : Passes columns (bytes_of m (data_id first_generation)) None 0 entries (inside_of scan.walk) filled.at =
+      subst (λ (n : ℕ). Passes columns (bytes_of m (data_id first_generation)) None 0 entries (inside_of scan.walk) n) (sym place) walked.1 in
+      passes_stop columns (bytes_of m (data_id first_generation)) entries (inside_of scan.walk) filled.at from stop (halts (bytes_of m (data_id first_generation)) (read walked.0))
 
   pub stop_turn : (walk' : Walk) (text' : List ℕ) → StepIs columns ahead walk' scan.text text' met.Stop
       → TurnIs columns files scan (record { walk = walk'; text = text'; rows = scan.rows }) Stopped
@@ -157,7 +165,7 @@ module _ (columns : Columns) where
   pub holding_pushed : (files : Option Files) (scan scan' : Scan) (pushed piece : List ℕ) (entries : List Entry) → scan'.walk ≡ scan.walk → scan'.rows ≡ scan.rows → scan.text ≡ piece ++ scan'.text
       → Holding columns files scan pushed entries → Holding columns files scan' (pushed ++ piece) entries
   holding_pushed files scan scan' pushed piece entries walk rows text held = record {
-    walked = subst (λ (w : Walk). IfSome files (λ m. Continues (bytes_of m data_id) w.window × Passes columns (bytes_of m data_id) None 0 entries (inside_of w) w.window.at)) (sym walk) held.walked;
+    walked = subst (λ (w : Walk). IfSome files (λ m. Continues (bytes_of m (data_id first_generation)) w.window × Passes columns (bytes_of m (data_id first_generation)) None 0 entries (inside_of w) w.window.at)) (sym walk) held.walked;
     text = append_assoc pushed piece scan'.text ∙ (ap (λ t. pushed ++ t) (sym text) ∙ held.text);
     count = rows ∙ held.count;
   }

@@ -23,13 +23,13 @@ use Rattle.table_tool.specs.declared.walk.Met.{Met}
 use Rattle.table_tool.specs.declared.walk.Met.TheVariants.{Stop}
 use Rattle.table_tool.specs.Entries.{is_row, row_count}
 use Rattle.table_tool.specs.Printed.{entry_line, entry_lines}
-use Rattle.table_tool.specs.Standing.{fixed_entries}
-use Rattle.table_tool.specs.Window.{Unread, Continues, IsFull, enough}
-use Rattle.table_tool.specs.Walk.{Passes, Stops}
-use Rattle.table_tool.specs.Steps.{Halts, IsFixedBehind, Moves, NoFixedBehind, Shows, StepIs, inside_of}
+use Rattle.table_tool.specs.Window.{Unread, Continues, HasEnough, enough}
+use Rattle.table_files.specs.Walk.{Passes, Stops}
+use Rattle.table_tool.specs.Steps.{Halts, IsFixedBehind, Moves, NoFixedBehind, PrintsEntries, StepIs, inside_of}
 use Rattle.table_tool.proofs.PartsLemmas.{some_string}
 use Rattle.table_tool.proofs.PrintedLemmas.{fixed_count, is_row_behind}
 use Rattle.table_tool.proofs.WalkLemmas.{bad_fixed_stops, bad_head_stops, bad_row_stops, end_passes, file_end_stops, head_passes, row_passes}
+use Rattle.table_files.specs.Standing.{static_entries}
 
 -- ---- the partition
 
@@ -99,12 +99,12 @@ module _ (columns : Columns) where
 
   pub moves_head : (w v : Unread) (n : ℕ) (inside : Option (List ℕ)) (key : List ℕ) (fixed : Option (List ℕ)) (count : ℕ) → w.at + length w.bytes ≤ w.limit → inside ≡ None → v ≡ passed_by n w
       → n ≡ length (head_bytes key) + count → BeginsHead columns w.bytes key → IsFixedBehind columns (drop (length (head_bytes key)) w.bytes) fixed count
-      → Moving w v inside (Some key) (fixed_entries key fixed)
+      → Moving w v inside (Some key) (static_entries key fixed)
   moves_head w v n inside key fixed count room outside is long (string, (more, e)) (f, size, (behind, g)) =
       let front : List ℕ = head_bytes key ++ fixed_bytes columns.static_value fixed in
-      moving w v n front behind inside (Some key) (fixed_entries key fixed) room is (omega (arith, length-append (head_bytes key) (fixed_bytes columns.static_value fixed)))
+      moving w v n front behind inside (Some key) (static_entries key fixed) room is (omega (arith, length-append (head_bytes key) (fixed_bytes columns.static_value fixed)))
       (omega (arith, length-append (head_bytes key) (fixed_bytes columns.static_value fixed))) (parts_there w.bytes key more behind fixed e g)
-      (λ file rest at. subst (λ (o : Option (List ℕ)). Passes columns file o w.at (fixed_entries key fixed) (Some key) (w.at + length front)) (sym outside)
+      (λ file rest at. subst (λ (o : Option (List ℕ)). Passes columns file o w.at (static_entries key fixed) (Some key) (w.at + length front)) (sym outside)
       (head_passes columns file w.at key fixed rest string f at))
 
   pub moves_row : (w v : Unread) (n : ℕ) (inside : Option (List ℕ)) (key c value : List ℕ) → w.at + length w.bytes ≤ w.limit → inside ≡ Some key → v ≡ passed_by n w
@@ -123,14 +123,14 @@ module _ (columns : Columns) where
   all_of : (file : List ℕ) (w : Unread) (c : Continues file w) → w.whole ≡ true → drop w.at file ≡ w.bytes
   all_of file w c whole = c.is ∙ ap (λ r. w.bytes ++ r) (c.ended whole) ∙ append-nil w.bytes
 
-  pub halts_end : (walk : Walk) → walk.inside ≡ false → IsFull walk.window → walk.window.bytes ≡ [] → (file : List ℕ) → Continues file walk.window
+  pub halts_end : (walk : Walk) → walk.inside ≡ false → HasEnough walk.window → walk.window.bytes ≡ [] → (file : List ℕ) → Continues file walk.window
       → Stops columns file (inside_of walk) walk.window.at [] None
   halts_end walk outside full empty file c =
       let whole : walk.window.whole ≡ true = ⊎_elim (λ e. e) (λ (l : enough ≤ length walk.window.bytes). absurd (omega (arith, ap length empty))) full in
       subst (λ (o : Option (List ℕ)). Stops columns file o walk.window.at [] None) (sym (is_outside walk outside))
       (file_end_stops columns file walk.window.at (all_of file walk.window c whole ∙ empty))
 
-  no_head_there : (file : List ℕ) (w : Unread) → Continues file w → IsFull w → NoHead columns w.bytes → NoHead columns (drop w.at file)
+  no_head_there : (file : List ℕ) (w : Unread) → Continues file w → HasEnough w → NoHead columns w.bytes → NoHead columns (drop w.at file)
   no_head_there file w c (inl whole) no_head = subst (λ (b : List ℕ). NoHead columns b) (sym (all_of file w c whole)) no_head
   no_head_there file w c (inr long) no_head = subst (λ (b : List ℕ). NoHead columns b) (sym c.is) (no_head_on columns w.bytes c.rest (omega arith) no_head)
 
@@ -142,7 +142,7 @@ module _ (columns : Columns) where
   stops_so walk walk' text met damage is stop halts =
       subst (λ (m : Met). StepIs columns walk walk' text text m) (sym is) (refl, subst (λ (d : Option Damage). Halts columns walk d) (sym stop) halts)
 
-  pub halts_head : (walk walk' : Walk) (text : List ℕ) (met : Met) → walk.inside ≡ false → IsFull walk.window → walk.window.bytes ≢ []
+  pub halts_head : (walk walk' : Walk) (text : List ℕ) (met : Met) → walk.inside ≡ false → HasEnough walk.window → walk.window.bytes ≢ []
       → NoHead columns walk.window.bytes → met ≡ Stop → walk'.stop ≡ Some (damage_at walk.window.at BadHead) → StepIs columns walk walk' text text met
   halts_head walk walk' text met outside full some no_head is stop =
       stops_so walk walk' text met (damage_at walk.window.at BadHead) is stop (
@@ -153,13 +153,13 @@ module _ (columns : Columns) where
       )
 
   -- no static part stands there in the file
-  no_part_there : (file : List ℕ) (w : Unread) (key more : List ℕ) → length key ≤ 1024 → w.bytes ≡ head_bytes key ++ more → (c : Continues file w) → IsFull w
+  no_part_there : (file : List ℕ) (w : Unread) (key more : List ℕ) → length key ≤ 1024 → w.bytes ≡ head_bytes key ++ more → (c : Continues file w) → HasEnough w
       → ((NoFixed columns more × (length more < 65538)) ⊎ ((rest : List ℕ) → NoFixed columns (more ++ rest))) → NoFixed columns (more ++ c.rest)
   no_part_there file w key more short e c full (inr never) = never c.rest
   no_part_there file w key more short e c (inl whole) (inl (no_part, few)) = subst (NoFixed columns) (sym (ap (λ r. more ++ r) (c.ended whole) ∙ append-nil more)) no_part
   no_part_there file w key more short e c (inr long) (inl (no_part, few)) = absurd (omega (arith, ap length e, length-append (head_bytes key) more))
 
-  pub halts_fixed : (walk walk' : Walk) (text key : List ℕ) (met : Met) (n : ℕ) → walk.inside ≡ false → IsFull walk.window → BeginsHead columns walk.window.bytes key → n ≡ length (head_bytes key)
+  pub halts_fixed : (walk walk' : Walk) (text key : List ℕ) (met : Met) (n : ℕ) → walk.inside ≡ false → HasEnough walk.window → BeginsHead columns walk.window.bytes key → n ≡ length (head_bytes key)
       → NoFixedBehind columns (drop n walk.window.bytes) → met ≡ Stop → walk'.stop ≡ Some (damage_at (walk.window.at + n) BadRow) → StepIs columns walk walk' text text met
   halts_fixed walk walk' text key met n outside full (string, (more, e)) size (static, no_part) is stop =
       let w : Unread = walk.window in
@@ -181,7 +181,7 @@ module _ (columns : Columns) where
       (bad_row_stops columns file walk.window.at walk.key (no_row file c))
       )
 
-  pub few_rows : (w : Unread) → IsFull w → NoRow columns w.bytes × (length w.bytes < 66564) → (file : List ℕ) → Continues file w → NoRow columns (drop w.at file)
+  pub few_rows : (w : Unread) → HasEnough w → NoRow columns w.bytes × (length w.bytes < 66564) → (file : List ℕ) → Continues file w → NoRow columns (drop w.at file)
   few_rows w full (no_row, few) file c =
       let whole : w.whole ≡ true = ⊎_elim (λ e. e) (λ (l : enough ≤ length w.bytes). absurd (omega arith)) full in
       subst (λ (b : List ℕ). NoRow columns b) (sym (all_of file w c whole)) no_row
@@ -201,7 +201,7 @@ goes_on false ne = absurd (ne refl)
 module _ (columns : Columns) where
   -- a row
   pub prints_row : (walk walk' : Walk) (text text' c value : List ℕ) → IsTextOf columns.partition walk.key walk.text → IsStringOf columns.clustering c
-      → text' ≡ text ++ entry_line columns (walk.key ++ c, value) → Moves columns walk walk' ((walk.key ++ c, value) ∷ []) → Shows columns 1 walk walk' text text'
+      → text' ≡ text ++ entry_line columns (walk.key ++ c, value) → Moves columns walk walk' ((walk.key ++ c, value) ∷ []) → PrintsEntries columns 1 walk walk' text text'
   prints_row walk walk' text text' c value has string line moves =
       let entry : Entry = (walk.key ++ c, value) in
       let row : is_row columns entry ≡ true = is_row_behind columns walk.key walk.text c value has ∙ some_string columns.clustering c string in
@@ -209,13 +209,13 @@ module _ (columns : Columns) where
       (entry ∷ [], one, line ∙ ap (λ t. text ++ t) (sym (append-nil (entry_line columns entry))), moves)
 
   -- nothing
-  pub prints_none : (walk walk' : Walk) (text : List ℕ) → Moves columns walk walk' [] → Shows columns 0 walk walk' text text
+  pub prints_none : (walk walk' : Walk) (text : List ℕ) → Moves columns walk walk' [] → PrintsEntries columns 0 walk walk' text text
   prints_none walk walk' text moves = ([], refl, sym (append-nil text), moves)
 
   -- the static value of a partition, where it has one
   pub prints_fixed : (walk walk' : Walk) (text text' : List ℕ) (fixed : Option (List ℕ)) → IsTextOf columns.partition walk'.key walk'.text
-      → text' ≡ text ++ entry_lines columns (fixed_entries walk'.key fixed) → Moves columns walk walk' (fixed_entries walk'.key fixed) → Shows columns 0 walk walk' text text'
-  prints_fixed walk walk' text text' fixed has line moves = (fixed_entries walk'.key fixed, fixed_count columns walk'.key walk'.text fixed has, line, moves)
+      → text' ≡ text ++ entry_lines columns (static_entries walk'.key fixed) → Moves columns walk walk' (static_entries walk'.key fixed) → PrintsEntries columns 0 walk walk' text text'
+  prints_fixed walk walk' text text' fixed has line moves = (static_entries walk'.key fixed, fixed_count columns walk'.key walk'.text fixed has, line, moves)
 
 -- ---- the static part behind a head
 

@@ -9,11 +9,11 @@ use Rattle.key_decode.specs.Strings.{IsStringOf}
 use Rattle.key_types.specs.declared.schema.ValueType.{ValueType}
 use Rattle.data_file.specs.Listing.{head_bytes, fixed_bytes, row_bytes, static_bytes, IsFixed, IsRow}
 use Rattle.data_file.specs.Reading.{NoFixed, NoHead, NoRow}
-use Rattle.data_file.proofs.Counted.{counted-same}
+use Rattle.length_prefix.proofs.Counts.{counted-same}
 use Rattle.data_file.proofs.Unique.{fixed_front, row_front}
-use Rattle.table_tool.specs.Walk.{Walks, ends, bad_head, bad_fixed, head, row, closes, bad_row, Passes, Stops}
-use Rattle.table_tool.specs.Standing.{fixed_entries}
+use Rattle.table_files.specs.Walk.{Walks, ends, bad_head, bad_fixed, head, row, closes, bad_row, Passes, Stops}
 use Rattle.table_tool.proofs.WindowLemmas.{behind}
+use Rattle.table_files.specs.Standing.{static_entries}
 
 module _ (columns : Columns) where
   -- ---- bytes
@@ -45,14 +45,14 @@ module _ (columns : Columns) where
 
   head_only : (at : ℕ) (key : List ℕ) (fixed : Option (List ℕ)) (bytes rest : List ℕ) (all : List Entry) (stop : Option Damage) → IsStringOf columns.partition key
       → IsFixed columns.static_value fixed → bytes ≡ (head_bytes key ++ fixed_bytes columns.static_value fixed) ++ rest → Walks columns None at bytes all stop
-      → Goes (fixed_entries key fixed) (Some key) (at + length (head_bytes key ++ fixed_bytes columns.static_value fixed)) rest all stop
+      → Goes (static_entries key fixed) (Some key) (at + length (head_bytes key ++ fixed_bytes columns.static_value fixed)) rest all stop
   head_only at key fixed bytes rest all stop is f e (ends _) = cc
   head_only at key fixed bytes rest all stop is f e (bad_head _ _ some no_head) =
       absurd (no_head key (is, (fixed_bytes columns.static_value fixed ++ rest, e ∙ append_assoc (head_bytes key) (fixed_bytes columns.static_value fixed) rest)))
   head_only at key fixed bytes rest all stop is f e (head _ key' fixed' _ rest' entries _ is' f' e' walk) =
       let same = heads_same key' key fixed' fixed rest' rest f' f (sym e' ∙ e) in (
         entries,
-        (λ i. fixed_entries (same.0 i) (same.1 i) ++ entries),
+        (λ i. static_entries (same.0 i) (same.1 i) ++ entries),
         subst (λ (r : List ℕ). Walks columns (Some key) (at + length (head_bytes key ++ fixed_bytes columns.static_value fixed)) r entries stop) same.2
             (subst (λ (o : Option (List ℕ)). Walks columns (Some key) (at + length (head_bytes key ++ fixed_bytes columns.static_value o)) rest' entries stop) same.1
             (subst (λ (k : List ℕ). Walks columns (Some k) (at + length (head_bytes k ++ fixed_bytes columns.static_value fixed')) rest' entries stop) same.0 walk)),
@@ -121,12 +121,12 @@ module _ (columns : Columns) where
 
     pub head_passes : (at : ℕ) (key : List ℕ) (fixed : Option (List ℕ)) (rest : List ℕ) → IsStringOf columns.partition key → IsFixed columns.static_value fixed
         → drop at file ≡ (head_bytes key ++ fixed_bytes columns.static_value fixed) ++ rest
-        → Passes columns file None at (fixed_entries key fixed) (Some key) (at + length (head_bytes key ++ fixed_bytes columns.static_value fixed))
+        → Passes columns file None at (static_entries key fixed) (Some key) (at + length (head_bytes key ++ fixed_bytes columns.static_value fixed))
     head_passes at key fixed rest is f e =
         let front : List ℕ = head_bytes key ++ fixed_bytes columns.static_value fixed in
         record {
           onward = λ more stop walk. head at key fixed (drop at file) rest more stop is f e (moved (Some key) at front rest more stop e walk);
-          only = λ all stop walk. goes_there (Some key) at front rest (fixed_entries key fixed) all stop e (head_only at key fixed (drop at file) rest all stop is f e walk);
+          only = λ all stop walk. goes_there (Some key) at front rest (static_entries key fixed) all stop e (head_only at key fixed (drop at file) rest all stop is f e walk);
         }
 
     pub row_passes : (at : ℕ) (key c v rest : List ℕ) → IsRow columns c v → drop at file ≡ row_bytes c v ++ rest

@@ -48,4 +48,6 @@ fault_line (status.Damaged damage) =
 fault_line status.Unfinished = codes "error: unfinished\n"
 fault_line status.Exists = codes "error: exists\n"
 fault_line status.TooLarge = codes "error: too large\n"
-fault_line _ = []
+fault_line status.Ok = []
+fault_line status.SinkFault = []
+fault_line status.NoMemory = []

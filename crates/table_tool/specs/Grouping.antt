@@ -16,14 +16,14 @@ IsBehind columns [] value = IsFixed columns.static_value (Some value)
 IsBehind columns (b ∷ bs) value = IsRow columns (b ∷ bs) value
 
 -- an entry of a table: its key's string is that of a partition, and behind it that of a row or nothing
-pub record IsEntry (columns : Columns) (entry : Entry) : Type 0 where
+pub record IsTableEntry (columns : Columns) (entry : Entry) : Type 0 where
   pub partition : IsStringOf columns.partition (partition_in columns entry.0)
   pub behind : IsBehind columns (clustering_in columns entry.0) entry.1
   pub parts : partition_in columns entry.0 ++ clustering_in columns entry.0 ≡ entry.0
 
-abbrev pub AreEntries : Columns → List Entry → Type 0
-AreEntries columns [] = Unit {0}
-AreEntries columns (entry ∷ entries) = IsEntry columns entry × AreEntries columns entries
+abbrev pub AreTableEntries : Columns → List Entry → Type 0
+AreTableEntries columns [] = Unit {0}
+AreTableEntries columns (entry ∷ entries) = IsTableEntry columns entry × AreTableEntries columns entries
 
 -- the static value of an entry behind whose partition's string these bytes stand
 abbrev pub fixed_by : List ℕ → List ℕ → Option (List ℕ)

@@ -27,13 +27,13 @@ abbrev pub IsSpelled : Columns → Script → Type 0
 IsSpelled columns script = (bytes : List ℕ) × (script_of columns bytes ≡ Ok script)
 
 -- the script that is expected, unless the source failed or memory ran out
-abbrev pub Takes : Result Script Status → Result Script ScriptError → Type 0
-Takes (Ok script) expected = expected ≡ Ok script
-Takes (Err (status.BadLine line cause)) expected = expected ≡ Err (script_error.BadLine line cause)
-Takes (Err status.TooLarge) expected = expected ≡ Err script_error.TooLarge
-Takes (Err status.SourceFault) expected = Unit {0}
-Takes (Err status.NoMemory) expected = Unit {0}
-Takes (Err result) expected = ⊥
+abbrev pub TakesScript : Result Script Status → Result Script ScriptError → Type 0
+TakesScript (Ok script) expected = expected ≡ Ok script
+TakesScript (Err (status.BadLine line cause)) expected = expected ≡ Err (script_error.BadLine line cause)
+TakesScript (Err status.TooLarge) expected = expected ≡ Err script_error.TooLarge
+TakesScript (Err status.SourceFault) expected = Unit {0}
+TakesScript (Err status.NoMemory) expected = Unit {0}
+TakesScript (Err result) expected = ⊥
 
 -- the statuses with which no script is taken
 abbrev pub EndsEarly : Status → Type 0

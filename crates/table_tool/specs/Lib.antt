@@ -1,15 +1,15 @@
 pub mod Request
 pub mod Entries
+pub mod First
 pub mod Rows
-pub mod Standing
 pub mod Window
-pub mod Walk
 pub mod Printed
 pub mod Lines
 pub mod Input
-pub mod Listing
 pub mod FaultLine
+pub mod Outside
 pub mod Outcome
+pub mod Listing
 pub mod Steps
 pub mod Scanning
 pub mod Scanned
@@ -17,4 +17,5 @@ pub mod Grouping
 pub mod Loading
 pub mod Keys
 pub mod Run
+pub mod Laws
 pub mod Numbers

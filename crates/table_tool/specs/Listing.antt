@@ -1,5 +1,6 @@
--- The whole outcome of `list`. This project's own.
-use Rattle.std.specs.Prelude.{◌≡◌, ℕ, List, Result, Ok, Err}
+-- The whole outcome of `list`, and how it ends. This project's own.
+use Rattle.std.specs.Prelude.{◌≡◌, ℕ, List, ◌++◌, Option, Result, Ok, Err, IfSome}
+use Rattle.outside.specs.Told.{WhereTold}
 use Rattle.key_types.specs.Columns.{Columns}
 use Rattle.script_text.specs.declared.script.Script.{Script}
 use Rattle.script_text.specs.declared.script.ScriptError.{ScriptError}
@@ -7,6 +8,8 @@ use Rattle.script_text.specs.declared.script.ScriptError.TheVariants as script_e
 use Rattle.script_text.specs.Script.{script_of, puts_of}
 use Rattle.table_tool.specs.declared.status.Status.{Status}
 use Rattle.table_tool.specs.declared.status.Status.TheVariants as status
+use Rattle.table_tool.specs.Outcome.{AppendsPrefix, IsOrNoMemory, WritesRefusal, ended}
+use Rattle.table_tool.specs.Outside.{FaultRose, KeepsStore, Outside, SinkFails, SourceFails}
 use Rattle.table_tool.specs.Rows.{rows_of}
 use Rattle.table_tool.specs.Printed.{rows_text}
 
@@ -20,6 +23,66 @@ listing_of columns (Err script_error.NoMemory) = Err status.NoMemory
 -- what `list` makes of the source's bytes: the rows and static values of the sorted map of all puts, or why there are none
 abbrev pub listing : Columns → List ℕ → Result (List ℕ) Status
 listing columns bytes = listing_of columns (script_of columns bytes)
+
+-- the statuses that `list` may end with
+abbrev pub IsOfList : Status → Type 0
+IsOfList status.Ok = Unit {0}
+IsOfList status.Usage = ⊥
+IsOfList status.Key = ⊥
+IsOfList (status.BadLine line cause) = Unit {0}
+IsOfList status.SourceFault = Unit {0}
+IsOfList status.SinkFault = Unit {0}
+IsOfList status.StoreFault = ⊥
+IsOfList (status.Damaged damage) = ⊥
+IsOfList status.Unfinished = ⊥
+IsOfList status.Exists = ⊥
+IsOfList status.TooLarge = Unit {0}
+IsOfList status.NoMemory = Unit {0}
+
+-- what is expected: a text at Ok and where the sink failed, and for a bad line and a script that is too large that refusal
+abbrev pub IsListed : Status → Result (List ℕ) Status → Type 0
+IsListed status.Ok expected = (text : List ℕ) × (expected ≡ Ok text)
+IsListed status.Usage expected = ⊥
+IsListed status.Key expected = ⊥
+IsListed (status.BadLine line cause) expected = expected ≡ Err (status.BadLine line cause)
+IsListed status.SourceFault expected = Unit {0}
+IsListed status.SinkFault expected = (text : List ℕ) × (expected ≡ Ok text)
+IsListed status.StoreFault expected = ⊥
+IsListed (status.Damaged damage) expected = ⊥
+IsListed status.Unfinished expected = ⊥
+IsListed status.Exists expected = ⊥
+IsListed status.TooLarge expected = expected ≡ Err status.TooLarge
+IsListed status.NoMemory expected = Unit {0}
+
+-- Ok has written exactly this text, and a fault of the sink a prefix of it; what a refusal writes is said apart
+abbrev pub WritesRows : Status → List ℕ → List ℕ → List ℕ → Type 0
+WritesRows status.Ok text before after = after ≡ before ++ text
+WritesRows status.Usage text before after = Unit {0}
+WritesRows status.Key text before after = Unit {0}
+WritesRows (status.BadLine line cause) text before after = Unit {0}
+WritesRows status.SourceFault text before after = Unit {0}
+WritesRows status.SinkFault text before after = AppendsPrefix text before after
+WritesRows status.StoreFault text before after = Unit {0}
+WritesRows (status.Damaged damage) text before after = Unit {0}
+WritesRows status.Unfinished text before after = Unit {0}
+WritesRows status.Exists text before after = Unit {0}
+WritesRows status.TooLarge text before after = Unit {0}
+WritesRows status.NoMemory text before after = Unit {0}
+
+-- How `list` ends, from the columns of its schema.
+pub record ListEnds (columns : Columns) (before after : Outside) (result : Status) : Type 0 where
+  -- it ends with no other status, and with a fault only where the count of that object's faults rose
+  pub possible : IsOfList result
+  pub faults : FaultRose before after result
+  -- Ok comes only where the script is accepted, BadLine and TooLarge only where it is refused for that
+  pub decided : IfSome before.left (λ bytes. IsListed result (listing columns bytes))
+  -- completeness: where neither source nor sink failed, it is Ok for a script that is accepted, and else the status of its refusal
+  pub complete : IfSome before.left (λ bytes. ¬ (SourceFails before after) → ¬ (SinkFails before after) → IsOrNoMemory (ended (listing columns bytes)) result)
+  -- the rows and static values of the sorted map of all puts, and how many rows there are
+  pub rows : IfSome before.left (λ bytes. (text : List ℕ) → listing columns bytes ≡ Ok text → WhereTold before.written after.written (WritesRows result text))
+  -- a refusal has written its line and nothing else
+  pub refusal : WritesRefusal before after result
+  pub store : KeepsStore before after
 
 -- ---- how the parts of `list` answer
 

@@ -65,6 +65,14 @@ AreKey words = (kinds : Kinds) × (way : KeyWay) × (text : List ℕ) × AskKey 
 abbrev pub AreLoad : List (String Global) → Type 0
 AreLoad words = (columns : Columns) × AskLoad words columns
 
+-- they say `load`, with any text for a schema
+abbrev pub SayLoad : List (String Global) → Type 0
+SayLoad words = (text : List ℕ) × Say words (load text)
+
+-- they are a command whose texts are accepted
+abbrev pub AskSome : List (String Global) → Type 0
+AskSome words = ((columns : Columns) × AskList words columns) ⊎ AreLoad words ⊎ AskScan words ⊎ AreKey words
+
 -- no schema has the text that stands for one
 abbrev pub IsNoSchema : List ℕ → Type 0
 IsNoSchema text = (columns : Columns) → IsSchemaOf text columns → ⊥
@@ -110,3 +118,8 @@ Asks words (Ok request.Scan) = AskScan words
 Asks words (Ok (request.Key asked)) = AskKey words (kinds_in asked.part asked.schema) asked.way (string_bytes asked.text)
 Asks words (Err error.Usage) = AreRefused words
 Asks words (Err error.NoMemory) = Unit {0}
+
+-- true where the words say `load`, and false where they ask for no `load`
+abbrev pub TellsLoad : List (String Global) → Bool → Type 0
+TellsLoad words true = SayLoad words
+TellsLoad words false = ¬ (AreLoad words)

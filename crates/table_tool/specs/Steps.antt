@@ -12,7 +12,7 @@ use Rattle.table_tool.specs.declared.walk.Met.TheVariants.{Row, Border, Stop}
 use Rattle.table_tool.specs.Entries.{row_count}
 use Rattle.table_tool.specs.Printed.{entry_lines}
 use Rattle.table_tool.specs.Window.{Continues}
-use Rattle.table_tool.specs.Walk.{Passes, Stops}
+use Rattle.table_files.specs.Walk.{Passes, Stops}
 
 -- the string of the partition that the walk is in
 abbrev pub inside_of : Walk → Option (List ℕ)
@@ -35,14 +35,14 @@ module _ (columns : Columns) where
   Halts walk stop = (file : List ℕ) → Continues file walk.window → Stops columns file (inside_of walk) walk.window.at [] stop
 
   -- entries, so many of them of rows, were passed and printed
-  abbrev pub Shows : ℕ → Walk → Walk → List ℕ → List ℕ → Type 0
-  Shows rows walk walk' text text' =
+  abbrev pub PrintsEntries : ℕ → Walk → Walk → List ℕ → List ℕ → Type 0
+  PrintsEntries rows walk walk' text text' =
       (entries : List Entry) × (row_count columns entries ≡ rows) × (text' ≡ text ++ entry_lines columns entries) × Moves walk walk' entries
 
   -- from a walk to the walk after a step that met this, and from the text before it to the text after it
   abbrev pub StepIs : Walk → Walk → List ℕ → List ℕ → Met → Type 0
-  StepIs walk walk' text text' Row = Shows 1 walk walk' text text'
-  StepIs walk walk' text text' Border = Shows 0 walk walk' text text'
+  StepIs walk walk' text text' Row = PrintsEntries 1 walk walk' text text'
+  StepIs walk walk' text text' Border = PrintsEntries 0 walk walk' text text'
   StepIs walk walk' text text' Stop = (text' ≡ text) × Halts walk walk'.stop
 
 -- ---- the static part behind a head

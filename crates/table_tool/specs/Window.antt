@@ -20,5 +20,5 @@ abbrev pub enough : ℕ
 enough = 66564
 
 -- the longest row is among the unused bytes, or they are all
-abbrev pub IsFull : Unread → Type 0
-IsFull window = (window.whole ≡ true) ⊎ (enough ≤ length window.bytes)
+abbrev pub HasEnough : Unread → Type 0
+HasEnough window = (window.whole ≡ true) ⊎ (enough ≤ length window.bytes)

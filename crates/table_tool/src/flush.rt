@@ -6,19 +6,20 @@ ghost use Rattle.key_types.specs.Columns.{columns_of};
 ghost use Rattle.data_file.specs.Listing.{data_bytes, fixed_bytes, head_bytes};
 ghost use Rattle.data_file.specs.Writing.{Finishes, Puts};
 ghost use Rattle.table_tool.specs.Entries.{row_count};
-ghost use Rattle.table_tool.specs.Standing.{data_id};
-ghost use Rattle.table_tool.specs.Grouping.{AreEntries, grouped, begins, begun_at, before_row, end_behind, fixed_by, written_row};
+ghost use Rattle.table_files.specs.Names.{data_id};
+ghost use Rattle.table_tool.specs.First.{first_generation};
+ghost use Rattle.table_tool.specs.Grouping.{AreTableEntries, grouped, begins, begun_at, before_row, end_behind, fixed_by, written_row};
 ghost use Rattle.table_tool.specs.Loading.{Flushes};
 
-use crate::files::{DATA, SCHEMA};
+use crate::first::FIRST_GENERATION;
 use crate::parts::{part, row_at};
-use crate::schema_file::schema_text;
 use crate::table::Rows;
 use bti_nodes::PackError;
 use data_file::{Counts, DataWriter};
 use key_types::Schema;
 use outside::Store;
 use std::alloc::Global;
+use table_files::{data_id, schema_file_text, schema_id};
 
 /// Whether an entry of this partition begins it, behind an entry of the open one.
 fn begins(last: Option<&[u8]>, partition: &[u8]) -> bool
@@ -194,16 +195,16 @@ fn write_entries<K: Store>(
     rows: &Rows,
     store: &mut K,
 ) -> Result<Counts, PackError>
-    requires entries { AreEntries (columns_of schema.now) rows.now.entries }
+    requires entries { AreTableEntries (columns_of schema.now) rows.now.entries }
     requires count { length rows.now.entries ≤ 1000000 }
     ensures partitions { IfOk result (λ counts. counts.partitions ≡ length (grouped (columns_of schema.now) rows.now.entries)) }
     ensures rows { IfOk result (λ counts. counts.rows ≡ row_count (columns_of schema.now) rows.now.entries) }
-    ensures written { Finishes (K.files store.old) (K.files store.new) data_id result
+    ensures written { Finishes (K.files store.old) (K.files store.new) (data_id first_generation) result
         (data_bytes schema.now.static_value (grouped (columns_of schema.now) rows.now.entries)) }
     ensures later { K.faults store.old ≤ K.faults store.new }
     ensures fault { result ≡ Err PackError.StoreFault → Rose (K.faults store.old) (K.faults store.new) }
 {
-    let mut writer = DataWriter::new(alloc, DATA);
+    let mut writer = DataWriter::new(alloc, data_id(FIRST_GENERATION));
     let mut counts = Counts {
         partitions: 0,
         rows: 0,
@@ -231,7 +232,7 @@ pub fn flush<K: Store>(
     rows: &Rows,
     store: &mut K,
 ) -> Result<Counts, PackError>
-    requires entries { AreEntries (columns_of schema.now) rows.now.entries }
+    requires entries { AreTableEntries (columns_of schema.now) rows.now.entries }
     requires count { length rows.now.entries ≤ 1000000 }
     ensures partitions { IfOk result (λ counts. counts.partitions ≡ length (grouped (columns_of schema.now) rows.now.entries)) }
     ensures rows { IfOk result (λ counts. counts.rows ≡ row_count (columns_of schema.now) rows.now.entries) }
@@ -240,8 +241,8 @@ pub fn flush<K: Store>(
     ensures later { K.faults store.old ≤ K.faults store.new }
     ensures fault { result ≡ Err PackError.StoreFault → Rose (K.faults store.old) (K.faults store.new) }
 {
-    let text = schema_text(alloc, schema)?;
+    let text = schema_file_text(alloc, schema)?;
     let counts = write_entries(alloc, schema, rows, store)?;
-    store.append(SCHEMA, text.as_slice())?;
+    store.append(schema_id(FIRST_GENERATION), text.as_slice())?;
     Ok(counts)
 }

@@ -3,7 +3,7 @@ ghost use Rattle.std.specs.Prelude.{◌≡◌, ◌<◌, ◌≤◌, length, IfOk,
 ghost use Rattle.outside.specs.Causes.{Rose};
 ghost use Rattle.key_types.specs.Columns.{columns_of};
 ghost use Rattle.script_text.specs.Script.{script_of};
-ghost use Rattle.table_tool.specs.Input.{EndsEarly, IsSpelled, ReadIs, Takes};
+ghost use Rattle.table_tool.specs.Input.{EndsEarly, IsSpelled, ReadIs, TakesScript};
 
 use crate::status::Status;
 use key_types::{ByteList, NoMemory, Schema};
@@ -62,7 +62,7 @@ pub fn take_script<S: Source>(
     schema: &Schema,
     source: &mut S,
 ) -> Result<Script, Status>
-    ensures told { IfSome (S.left source.old) (λ bytes. Takes result (script_of (columns_of schema.now) bytes)) }
+    ensures told { IfSome (S.left source.old) (λ bytes. TakesScript result (script_of (columns_of schema.now) bytes)) }
     ensures spelled { IfOk result (IsSpelled (columns_of schema.now)) }
     ensures early { IfErr result EndsEarly }
     ensures later { S.faults source.old ≤ S.faults source.new }

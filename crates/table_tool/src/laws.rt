@@ -1,7 +1,13 @@
-//! Laws over the definitions of what is printed.
+//! Laws over the definitions of what is printed, and of runs one behind the other.
+ghost use Rattle.table_tool.specs.Laws.{Headline};
 ghost use Rattle.table_tool.specs.Printed.{KeysAreNamed};
 
 /// The line of a row names the components of which its key's string is put together, and so does that of a static value.
 pub fn law_keys_are_named()
     ensures { KeysAreNamed }
+{}
+
+/// Where `load` ended Ok, a `scan` over the files that it left prints the rows and static values of the sorted map of all puts.
+pub fn law_headline()
+    ensures { Headline }
 {}

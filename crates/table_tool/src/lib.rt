@@ -2,7 +2,7 @@
 #![tactic(auto)]
 
 mod fault_line;
-mod files;
+mod first;
 mod flush;
 mod input;
 mod key;
@@ -15,13 +15,15 @@ mod printing;
 mod request;
 mod saying;
 mod scan;
-mod schema_file;
 mod status;
 mod table;
 mod tool;
 mod walk;
 mod window;
 
-pub use laws::law_keys_are_named;
+pub use laws::{law_headline, law_keys_are_named};
 pub use status::Status;
 pub use tool::{run, run_load, run_query};
+
+#[cfg(test)]
+mod tests;

@@ -1,19 +1,22 @@
-//! The command `list`, up to its printing.
-ghost use Rattle.std.specs.Prelude.{◌≡◌, ◌≤◌, IfOk, IfErr, IfSome, Err};
+//! The command `list`: the rows and static values of a script's puts.
+ghost use Rattle.std.specs.Prelude.{◌≡◌, ◌≤◌, ℕ, Option, IfOk, IfErr, IfSome, Err};
 ghost use Rattle.outside.specs.Causes.{Rose};
+ghost use Rattle.outside.specs.Files.{Files};
 ghost use Rattle.key_types.specs.Columns.{columns_of};
 ghost use Rattle.script_text.specs.Script.{puts_of};
 ghost use Rattle.table_tool.specs.Rows.{rows_of};
 ghost use Rattle.table_tool.specs.Printed.{rows_text};
 ghost use Rattle.table_tool.specs.Input.{EndsEarly, IsSpelled};
-ghost use Rattle.table_tool.specs.Listing.{listing, GivesOrFault};
+ghost use Rattle.table_tool.specs.Listing.{listing, GivesOrFault, ListEnds};
+ghost use Rattle.table_tool.specs.Outside.{outside_of};
 
 use crate::input::take_script;
 use crate::printing::print_rows;
+use crate::saying::{print, refuse};
 use crate::status::Status;
 use crate::table::rows_put;
 use key_types::{ByteList, NoMemory, Schema};
-use outside::Source;
+use outside::{Sink, Source};
 use script_text::Script;
 use std::alloc::Global;
 
@@ -27,7 +30,7 @@ fn list_puts(alloc: Global, schema: &Schema, script: Script) -> Result<ByteList,
 }
 
 /// The text that is printed for the script of the source.
-pub fn list_source<S: Source>(
+fn list_source<S: Source>(
     alloc: Global,
     schema: &Schema,
     source: &mut S,
@@ -44,5 +47,23 @@ pub fn list_source<S: Source>(
     match list_puts(alloc, schema, script) {
         Ok(text) => Ok(text),
         Err(NoMemory) => Err(Status::NoMemory),
+    }
+}
+
+/// Does `list`.
+pub fn list<S: Source, O: Sink>(
+    alloc: Global,
+    schema: &Schema,
+    source: &mut S,
+    out: &mut O,
+) -> Status
+    ensures { (files : Option Files) (faults reads : ℕ) → ListEnds (columns_of schema.now)
+        (outside_of (S.left source.old) (S.faults source.old) (O.written out.old) (O.faults out.old) files faults reads)
+        (outside_of (S.left source.new) (S.faults source.new) (O.written out.new) (O.faults out.new) files faults reads) result }
+{
+    match list_source(alloc, schema, source) {
+        Ok(text) => print(out, text.as_slice()),
+        Err(Status::NoMemory) => Status::NoMemory,
+        Err(status) => refuse(alloc, out, status),
     }
 }

@@ -4,12 +4,14 @@ ghost use Rattle.outside.specs.Causes.{Rose};
 ghost use Rattle.outside.specs.Told.{WhereTold};
 ghost use Rattle.script_text.specs.Script.{puts_of};
 ghost use Rattle.key_types.specs.Columns.{columns_of};
-ghost use Rattle.table_tool.specs.Outcome.{Refuses};
-ghost use Rattle.table_tool.specs.Standing.{AreColumns};
+ghost use Rattle.table_files.specs.SchemaFile.{HaveSchemaFile};
+ghost use Rattle.table_files.specs.There.{any_there};
+ghost use Rattle.table_tool.specs.First.{first_generation};
+ghost use Rattle.table_tool.specs.Outside.{outside_of};
 ghost use Rattle.table_tool.specs.Input.{IsSpelled};
-ghost use Rattle.table_tool.specs.Loading.{ok_line, one_there, loading, Changes, Loaded, LoadEnds, Loads, IsExists, LeavesStore, NoneThere, StopsLoad};
+ghost use Rattle.table_tool.specs.Loading.{ok_line, loading, ChangesFiles, Loaded, LoadEnds, Loads, IsExists, KeepsFiles, NoneThere, StopsLoad};
 
-use crate::files::one_there;
+use crate::first::FIRST_GENERATION;
 use crate::flush::flush;
 use crate::input::take_script;
 use crate::numbers::put_number;
@@ -21,6 +23,7 @@ use key_types::{ByteList, NoMemory, Schema};
 use outside::{Failed, Sink, Source, Store};
 use script_text::Script;
 use std::alloc::Global;
+use table_files::any_there;
 
 /// The line of so many puts, rows and partitions.
 fn ok_line(alloc: Global, puts: u64, rows: u64, partitions: u64) -> Result<ByteList, NoMemory>
@@ -41,11 +44,11 @@ fn load_script<K: Store>(
     script: Script,
     store: &mut K,
 ) -> Result<ByteList, PackError>
-    requires columns { AreColumns (columns_of schema.now) }
+    requires columns { HaveSchemaFile (columns_of schema.now) }
     requires spelled { IsSpelled (columns_of schema.now) script }
     requires none { NoneThere (K.files store.old) }
     ensures loaded { IfOk result (Loaded (columns_of schema.now) (puts_of script.batches) (K.files store.old) (K.files store.new)) }
-    ensures changes { WhereTold (K.files store.old) (K.files store.new) (Changes (columns_of schema.now) (Ok (puts_of script.batches))) }
+    ensures changes { WhereTold (K.files store.old) (K.files store.new) (ChangesFiles (columns_of schema.now) (Ok (puts_of script.batches))) }
     ensures later { K.faults store.old ≤ K.faults store.new }
     ensures fault { result ≡ Err PackError.StoreFault → Rose (K.faults store.old) (K.faults store.new) }
 {
@@ -62,13 +65,13 @@ fn load_source<S: Source, K: Store>(
     source: &mut S,
     store: &mut K,
 ) -> Result<ByteList, Status>
-    requires columns { AreColumns (columns_of schema.now) }
+    requires columns { HaveSchemaFile (columns_of schema.now) }
     requires none { NoneThere (K.files store.old) }
     ensures loads { IfSome (S.left source.old) (λ bytes. Loads (columns_of schema.now) result (loading (columns_of schema.now) bytes) (K.files store.old) (K.files store.new)) }
     ensures stops { IfErr result StopsLoad }
     ensures not_exists { ¬ (result ≡ Err Status.Exists) }
-    ensures kept { IfErr result (λ status. LeavesStore status (K.files store.old) (K.files store.new)) }
-    ensures changes { IfSome (S.left source.old) (λ bytes. WhereTold (K.files store.old) (K.files store.new) (Changes (columns_of schema.now) (loading (columns_of schema.now) bytes))) }
+    ensures kept { IfErr result (λ status. KeepsFiles status (K.files store.old) (K.files store.new)) }
+    ensures changes { IfSome (S.left source.old) (λ bytes. WhereTold (K.files store.old) (K.files store.new) (ChangesFiles (columns_of schema.now) (loading (columns_of schema.now) bytes))) }
     ensures later { S.faults source.old ≤ S.faults source.new }
     ensures store_later { K.faults store.old ≤ K.faults store.new }
     ensures fault { result ≡ Err Status.SourceFault → Rose (S.faults source.old) (S.faults source.new) }
@@ -92,19 +95,21 @@ fn load_once<S: Source, K: Store>(
     source: &mut S,
     store: &mut K,
 ) -> Result<ByteList, Status>
-    requires columns { AreColumns (columns_of schema.now) }
-    ensures exists_only { IfSome (K.files store.old) (λ old. result ≡ Err Status.Exists → IsTrue (one_there old)) }
-    ensures exists { IfSome (K.files store.old) (λ old. IsTrue (one_there old) → MatchResult result (λ _. ⊥) IsExists × (K.files store.new ≡ K.files store.old)) }
+    requires columns { HaveSchemaFile (columns_of schema.now) }
+    ensures exists_only { IfSome (K.files store.old) (λ old. result ≡ Err Status.Exists → IsTrue (any_there first_generation old)) }
+    ensures exists { IfSome (K.files store.old) (λ old. IsTrue (any_there first_generation old)
+        → MatchResult result (λ _. ⊥) IsExists × (K.files store.new ≡ K.files store.old) × (source.new ≡ source.old)) }
+    ensures unread { result ≡ Err Status.Exists → source.new ≡ source.old }
     ensures loads { IfSome (S.left source.old) (λ bytes. Loads (columns_of schema.now) result (loading (columns_of schema.now) bytes) (K.files store.old) (K.files store.new)) }
     ensures stops { IfErr result StopsLoad }
-    ensures kept { IfErr result (λ status. LeavesStore status (K.files store.old) (K.files store.new)) }
-    ensures changes { IfSome (S.left source.old) (λ bytes. WhereTold (K.files store.old) (K.files store.new) (Changes (columns_of schema.now) (loading (columns_of schema.now) bytes))) }
+    ensures kept { IfErr result (λ status. KeepsFiles status (K.files store.old) (K.files store.new)) }
+    ensures changes { IfSome (S.left source.old) (λ bytes. WhereTold (K.files store.old) (K.files store.new) (ChangesFiles (columns_of schema.now) (loading (columns_of schema.now) bytes))) }
     ensures later { S.faults source.old ≤ S.faults source.new }
     ensures store_later { K.faults store.old ≤ K.faults store.new }
     ensures fault { result ≡ Err Status.SourceFault → Rose (S.faults source.old) (S.faults source.new) }
     ensures store_fault { result ≡ Err Status.StoreFault → Rose (K.faults store.old) (K.faults store.new) }
 {
-    match one_there(store) {
+    match any_there(store, FIRST_GENERATION) {
         Ok(false) => load_source(alloc, schema, source, store),
         Ok(true) => Err(Status::Exists),
         Err(Failed) => Err(Status::StoreFault),
@@ -119,13 +124,11 @@ pub fn load<S: Source, O: Sink, K: Store>(
     out: &mut O,
     store: &mut K,
 ) -> Status
-    requires columns { AreColumns (columns_of schema.now) }
-    ensures ends { LoadEnds (columns_of schema.now) (S.left source.old) (S.faults source.old) (S.faults source.new)
-        (K.files store.old) (K.files store.new) (K.faults store.old) (K.faults store.new)
-        (O.written out.old) (O.written out.new) (O.faults out.old) (O.faults out.new) result }
-    ensures refuses { WhereTold (O.written out.old) (O.written out.new) (Refuses result (O.faults out.old) (O.faults out.new)) }
-    ensures not_usage { ¬ (result ≡ Status.Usage) }
-    ensures not_key { ¬ (result ≡ Status.Key) }
+    requires columns { HaveSchemaFile (columns_of schema.now) }
+    ensures { LoadEnds (columns_of schema.now)
+        (outside_of (S.left source.old) (S.faults source.old) (O.written out.old) (O.faults out.old) (K.files store.old) (K.faults store.old) (K.reads store.old))
+        (outside_of (S.left source.new) (S.faults source.new) (O.written out.new) (O.faults out.new) (K.files store.new) (K.faults store.new) (K.reads store.new))
+        result }
 {
     match load_once(alloc, schema, source, store) {
         Ok(line) => print(out, line.as_slice()),

@@ -7,10 +7,10 @@ ghost use Rattle.key_decode.specs.Strings.{IsStringOf};
 ghost use Rattle.key_text.specs.Written.{equals_literal};
 ghost use Rattle.key_printing.specs.Texts.{IsTextOf};
 ghost use Rattle.data_file.specs.Listing.{IsFixed};
-ghost use Rattle.table_tool.specs.Grouping.{AreEntries, IsBehind};
+ghost use Rattle.table_tool.specs.Grouping.{AreTableEntries, IsBehind};
 ghost use Rattle.table_tool.specs.Lines.{EndsLine};
 ghost use Rattle.table_tool.specs.Printed.{count_line, entry_line, entry_lines, rows_text};
-ghost use Rattle.table_tool.specs.Standing.{fixed_entries};
+ghost use Rattle.table_files.specs.Standing.{static_entries};
 
 use crate::numbers::put_number;
 use crate::parts::{part, row_at};
@@ -83,7 +83,7 @@ pub fn put_fixed(
 ) -> Result<(), NoMemory>
     requires { IsFixed schema.now.static_value (option_copied fixed) }
     ensures { OnOk result ((key : List ℕ) → IsTextOf (kinds_of schema.now.partition) key partition.now
-        → out.new ≡ out.old ++ entry_lines (columns_of schema.now) (fixed_entries key (option_copied fixed.entry))) }
+        → out.new ≡ out.old ++ entry_lines (columns_of schema.now) (static_entries key (option_copied fixed.entry))) }
 {
     match fixed {
         Some(value) => {
@@ -125,7 +125,7 @@ pub fn put_count(out: &mut ByteList, rows: u64) -> Result<(), NoMemory>
 
 /// The lines of the entries in order, and how many rows there are.
 pub fn print_rows(alloc: Global, schema: &Schema, rows: &Rows) -> Result<ByteList, NoMemory>
-    requires entries { AreEntries (columns_of schema.now) rows.now.entries }
+    requires entries { AreTableEntries (columns_of schema.now) rows.now.entries }
     requires count { length rows.now.entries ≤ 1000000 }
     ensures { IfOk result (λ text. text ≡ rows_text (columns_of schema.now) rows.now.entries) }
 {

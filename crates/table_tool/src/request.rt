@@ -1,14 +1,14 @@
 //! What the words ask for.
-ghost use Rattle.std.specs.Prelude.{◌≡◌};
+ghost use Rattle.std.specs.Prelude.{◌≡◌, IfOk};
 ghost use Rattle.std.specs.String.{string_bytes};
 ghost use Rattle.key_types.specs.Columns.{columns_of};
 ghost use Rattle.command_line.specs.Said.{way_of};
 ghost use Rattle.key_tool.specs.Shown.{kinds_in};
-ghost use Rattle.table_tool.specs.Request.{Asks, ReadsKey, ReadsSchema, part_kinds, said_way, words_error};
+ghost use Rattle.table_tool.specs.Request.{Asks, ReadsKey, ReadsSchema, TellsLoad, part_kinds, said_way, words_error};
 
 use command_line::{Command, KeyArguments, WordsError, read_words};
 use key_tool::{KeyPart, KeyWay};
-use key_types::Schema;
+use key_types::{NoMemory, Schema};
 use schema_text::{SchemaError, read_schema};
 use std::alloc::Global;
 
@@ -109,5 +109,17 @@ pub fn read_request(alloc: Global, words: &[String]) -> Result<Request, WordsErr
         }
         Command::Scan => Ok(Request::Scan),
         Command::Key(arguments) => key_request(alloc, arguments),
+    }
+}
+
+/// Whether the words are those of `load`; their schema isn't looked at.
+pub fn says_load(alloc: Global, words: &[String]) -> Result<bool, NoMemory>
+    ensures { IfOk result (TellsLoad words.now) }
+{
+    match read_words(alloc, words) {
+        Ok(Command::Load(_)) => Ok(true),
+        Ok(Command::List(_)) | Ok(Command::Scan) | Ok(Command::Key(_)) => Ok(false),
+        Err(WordsError::Usage) => Ok(false),
+        Err(WordsError::NoMemory) => Err(NoMemory),
     }
 }

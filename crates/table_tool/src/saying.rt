@@ -2,7 +2,7 @@
 ghost use Rattle.std.specs.Prelude.{◌≡◌, ◌≤◌, ◌⊎◌};
 ghost use Rattle.outside.specs.Told.{WhereTold};
 ghost use Rattle.outside.specs.Causes.{Rose};
-ghost use Rattle.table_tool.specs.Outcome.{Refuses, Prints, IsOrNoMemory, IsRefusal};
+ghost use Rattle.table_tool.specs.Outcome.{SaysRefusal, PrintsText, IsOrNoMemory, IsRefusal};
 
 use crate::fault_line::fault_line;
 use crate::status::Status;
@@ -13,7 +13,7 @@ use std::alloc::Global;
 pub fn refuse<O: Sink>(alloc: Global, out: &mut O, status: Status) -> Status
     requires { IsRefusal status }
     ensures status { IsOrNoMemory status result }
-    ensures told { WhereTold (O.written out.old) (O.written out.new) (Refuses result (O.faults out.old) (O.faults out.new)) }
+    ensures told { WhereTold (O.written out.old) (O.written out.new) (SaysRefusal result (O.faults out.old) (O.faults out.new)) }
     ensures later { O.faults out.old ≤ O.faults out.new }
 {
     let Ok(line) = fault_line(alloc, status) else {
@@ -27,7 +27,7 @@ pub fn refuse<O: Sink>(alloc: Global, out: &mut O, status: Status) -> Status
 /// Pushes a text, and answers Ok or a fault of the sink.
 pub fn print<O: Sink>(out: &mut O, text: &[u8]) -> Status
     ensures cases { result ≡ Status.Ok ⊎ result ≡ Status.SinkFault }
-    ensures told { WhereTold (O.written out.old) (O.written out.new) (Prints text.now result) }
+    ensures told { WhereTold (O.written out.old) (O.written out.new) (PrintsText text.now result) }
     ensures later { O.faults out.old ≤ O.faults out.new }
     ensures fault { result ≡ Status.SinkFault → Rose (O.faults out.old) (O.faults out.new) }
 {

@@ -1,29 +1,28 @@
 //! The command `scan`: the rows of the files.
-ghost use Rattle.std.specs.Prelude.{◌≡◌, ◌≤◌, ◌<◌, ◌^◌, ◌++◌, [], length, Option, IfOk, IfSome, Err, OnErr};
+ghost use Rattle.std.specs.Prelude.{◌≡◌, ◌≤◌, ◌<◌, ◌^◌, ◌++◌, [], List, ℕ, length, Option, IfOk, IfSome, Err, OnErr};
 ghost use Rattle.outside.specs.Causes.{Rose};
 ghost use Rattle.outside.specs.Files.{Files, bytes_of};
 ghost use Rattle.outside.specs.Told.{WhereTold};
 ghost use Rattle.key_types.specs.Columns.{Columns, columns_of};
 ghost use Rattle.table_tool.specs.Outcome.{AppendsPrefix, IsRefusal};
 ghost use Rattle.table_tool.specs.Printed.{count_line};
-ghost use Rattle.table_tool.specs.Scanned.{Holding, IsBounded, IsEither, Prints, Pushed, ReadsSchema, Scanned, TurnIs};
+ghost use Rattle.table_tool.specs.Scanned.{Holding, IsBounded, IsEither, PrintsFiles, Pushed, Scanned, TurnIs};
 ghost use Rattle.table_tool.specs.Scanning.{ScanEnds, ScanWrites};
-ghost use Rattle.table_tool.specs.Standing.{IsSchema, data_id, schema_id};
+ghost use Rattle.table_files.specs.Names.{data_id, schema_id};
+ghost use Rattle.table_files.specs.SchemaFile.{IsSchemaFile};
+ghost use Rattle.table_tool.specs.First.{first_generation};
+ghost use Rattle.table_tool.specs.Outside.{outside_of};
 
-use crate::files::{DATA, SCHEMA};
+use crate::first::FIRST_GENERATION;
 use crate::printing::put_count;
 use crate::saying::{print, refuse};
-use crate::schema_file::read_schema_text;
 use crate::status::Status;
 use crate::walk::{Met, Walk};
-use crate::window::ReadError;
 use bti_nodes::Damage;
 use key_types::{ByteList, NoMemory, Schema};
 use outside::{Failed, Sink, Store};
 use std::alloc::Global;
-
-/// The greatest length of Schema.txt is below this.
-const PAGE: usize = 4096;
+use table_files::{FileError, data_id, read_schema};
 
 /// A text is pushed where it has at least so many bytes.
 const BLOCK: usize = 65_536;
@@ -59,16 +58,16 @@ impl Scan {
         alloc: Global,
         schema: &Schema,
         store: &mut K,
-    ) -> Result<Turn, ReadError>
+    ) -> Result<Turn, FileError>
         requires bounded { IsBounded (columns_of schema.now) self.old }
         ensures turn { IfOk result (TurnIs (columns_of schema.now) (K.files store.old) self.old self.new) }
         ensures bounded { IfOk result (λ turn. turn ≡ Turn.On → IsBounded (columns_of schema.now) self.new) }
-        ensures kept { result ≡ Err ReadError.StoreFault → self.new.text ≡ self.old.text }
+        ensures kept { result ≡ Err FileError.StoreFault → self.new.text ≡ self.old.text }
         ensures files { K.files store.new ≡ K.files store.old }
         ensures later { K.faults store.old ≤ K.faults store.new }
-        ensures fault { result ≡ Err ReadError.StoreFault → Rose (K.faults store.old) (K.faults store.new) }
+        ensures fault { result ≡ Err FileError.StoreFault → Rose (K.faults store.old) (K.faults store.new) }
     {
-        self.walk.window.fill(store, DATA)?;
+        self.walk.window.fill(store, data_id(FIRST_GENERATION))?;
         match self.walk.step(alloc, schema, &mut self.text)? {
             Met::Row => {
                 self.rows += 1;
@@ -117,8 +116,8 @@ impl Scan {
             match self.turn(alloc, schema, store) {
                 Ok(Turn::On) => {}
                 Ok(Turn::Stopped) => return Ok(self.walk.stop),
-                Err(ReadError::StoreFault) => return Err(ScanError::StoreFault),
-                Err(ReadError::NoMemory) => return Err(ScanError::NoMemory),
+                Err(FileError::StoreFault) => return Err(ScanError::StoreFault),
+                Err(FileError::NoMemory) => return Err(ScanError::NoMemory),
             }
             match self.push_block(out) {
                 Ok(()) => {}
@@ -159,7 +158,7 @@ impl Scan {
     fn new(alloc: Global, limit: u64) -> Scan
         requires { limit < 2 ^ 62 }
         ensures bounded { (columns : Columns) → IsBounded columns result }
-        ensures fresh { (columns : Columns) (files : Option Files) → IfSome files (λ m. length (bytes_of m data_id) ≡ limit) → Holding columns files result [] [] }
+        ensures fresh { (columns : Columns) (files : Option Files) → IfSome files (λ m. length (bytes_of m (data_id first_generation)) ≡ limit) → Holding columns files result [] [] }
     {
         Scan {
             walk: Walk::new(alloc, limit),
@@ -169,41 +168,29 @@ impl Scan {
     }
 }
 
-/// The schema of Schema.txt; `None` where it isn't there or isn't whole.
-fn read_schema<K: Store>(alloc: Global, store: &mut K) -> Result<Option<Schema>, ReadError>
-    ensures told { IfSome (K.files store.old) (λ m. IfOk result (ReadsSchema (bytes_of m schema_id))) }
-    ensures files { K.files store.new ≡ K.files store.old }
-    ensures later { K.faults store.old ≤ K.faults store.new }
-    ensures fault { result ≡ Err ReadError.StoreFault → Rose (K.faults store.old) (K.faults store.new) }
-{
-    let mut page = [0u8; PAGE];
-    let count = store.read(SCHEMA, 0, &mut page)?;
-    Ok(read_schema_text(alloc, &page[..count])?)
-}
-
 /// The length of Data.db, 0 where it is not there.
 fn data_length<K: Store>(store: &mut K) -> Result<u64, Failed>
-    ensures told { IfSome (K.files store.old) (λ m. IfOk result (λ n. length (bytes_of m data_id) ≡ n)) }
+    ensures told { IfSome (K.files store.old) (λ m. IfOk result (λ n. length (bytes_of m (data_id first_generation)) ≡ n)) }
     ensures limit { IfOk result (λ n. n < 2 ^ 62) }
     ensures files { K.files store.new ≡ K.files store.old }
     ensures later { K.faults store.old ≤ K.faults store.new }
     ensures fault { OnErr result (Rose (K.faults store.old) (K.faults store.new)) }
 {
-    match store.size(DATA)? {
+    match store.size(data_id(FIRST_GENERATION))? {
         Some(length) => Ok(length),
         None => Ok(0),
     }
 }
 
-/// Prints the rows and static values of Data.db.
+/// PrintsText the rows and static values of Data.db.
 fn scan_rows<O: Sink, K: Store>(
     alloc: Global,
     schema: &Schema,
     out: &mut O,
     store: &mut K,
 ) -> Status
-    requires schema { IfSome (K.files store.old) (λ m. IsSchema (columns_of schema.now) (bytes_of m schema_id)) }
-    ensures rows { Prints (K.files store.old) (O.written out.old) (O.written out.new) (O.faults out.old) (O.faults out.new) result }
+    requires schema { IfSome (K.files store.old) (λ m. IsSchemaFile (columns_of schema.now) (bytes_of m (schema_id first_generation))) }
+    ensures rows { PrintsFiles (K.files store.old) (O.written out.old) (O.written out.new) (O.faults out.old) (O.faults out.new) result }
     ensures not_unfinished { ¬ (result ≡ Status.Unfinished) }
     ensures files { K.files store.new ≡ K.files store.old }
     ensures store_later { K.faults store.old ≤ K.faults store.new }
@@ -226,16 +213,14 @@ fn scan_rows<O: Sink, K: Store>(
 
 /// Does `scan`.
 pub fn scan_table<O: Sink, K: Store>(alloc: Global, out: &mut O, store: &mut K) -> Status
-    ensures ends { ScanEnds (K.files store.old) (K.faults store.old) (K.faults store.new)
-        (O.written out.old) (O.written out.new) (O.faults out.old) (O.faults out.new) result }
-    ensures files { K.files store.new ≡ K.files store.old }
-    ensures not_usage { ¬ (result ≡ Status.Usage) }
-    ensures not_key { ¬ (result ≡ Status.Key) }
+    ensures { (left : Option (List ℕ)) (faults : ℕ) → ScanEnds
+        (outside_of left faults (O.written out.old) (O.faults out.old) (K.files store.old) (K.faults store.old) (K.reads store.old))
+        (outside_of left faults (O.written out.new) (O.faults out.new) (K.files store.new) (K.faults store.new) (K.reads store.new)) result }
 {
-    match read_schema(alloc, store) {
+    match read_schema(alloc, store, FIRST_GENERATION) {
         Ok(Some(schema)) => scan_rows(alloc, &schema, out, store),
         Ok(None) => refuse(alloc, out, Status::Unfinished),
-        Err(ReadError::StoreFault) => refuse(alloc, out, Status::StoreFault),
-        Err(ReadError::NoMemory) => Status::NoMemory,
+        Err(FileError::StoreFault) => refuse(alloc, out, Status::StoreFault),
+        Err(FileError::NoMemory) => Status::NoMemory,
     }
 }

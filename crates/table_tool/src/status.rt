@@ -1,3 +1,4 @@
+//! How a run ended, and the exit status of the program.
 ghost use Rattle.std.specs.Prelude.{◌≡◌};
 ghost use Rattle.table_tool.specs.Numbers.{number_of};
 

@@ -4,7 +4,7 @@ ghost use Rattle.std.specs.Option.{option_copied};
 ghost use Rattle.key_types.specs.Columns.{columns_of};
 ghost use Rattle.bti_nodes.specs.declared.damage.Cause.TheVariants.{BadRow};
 ghost use Rattle.data_file.specs.Answers.{damage_at};
-ghost use Rattle.table_tool.specs.Window.{IsFull};
+ghost use Rattle.table_tool.specs.Window.{HasEnough};
 ghost use Rattle.table_tool.specs.Steps.{HasKey, IsFixedBehind, NoFixedBehind, StepIs};
 
 use crate::printing::{put_fixed, put_row};
@@ -100,7 +100,7 @@ impl Walk {
 
     /// Goes over the head of the partition that stands next and its static part, and prints its static value where there is one.
     fn enter(&mut self, alloc: Global, schema: &Schema, out: &mut ByteList) -> Result<Met, NoMemory>
-        requires full { IsFull self.old.window }
+        requires full { HasEnough self.old.window }
         requires outside { self.old.inside ≡ false }
         ensures step { IfOk result (StepIs (columns_of schema.now) self.old self.new out.old out.new) }
         ensures key { IfOk result (λ _. HasKey (columns_of schema.now) self.new) }
@@ -131,7 +131,7 @@ impl Walk {
 
     /// Goes over the row that stands next and prints it, or over the end of the partition.
     fn go_on(&mut self, alloc: Global, schema: &Schema, out: &mut ByteList) -> Result<Met, NoMemory>
-        requires full { IsFull self.old.window }
+        requires full { HasEnough self.old.window }
         requires inside { ¬ (self.old.inside ≡ false) }
         requires key { HasKey (columns_of schema.now) self.old }
         ensures step { IfOk result (StepIs (columns_of schema.now) self.old self.new out.old out.new) }
@@ -169,7 +169,7 @@ impl Walk {
         schema: &Schema,
         out: &mut ByteList,
     ) -> Result<Met, NoMemory>
-        requires full { IsFull self.old.window }
+        requires full { HasEnough self.old.window }
         requires key { HasKey (columns_of schema.now) self.old }
         ensures step { IfOk result (StepIs (columns_of schema.now) self.old self.new out.old out.new) }
         ensures key { IfOk result (λ _. HasKey (columns_of schema.now) self.new) }

@@ -2,12 +2,13 @@
 ghost use Rattle.std.specs.Prelude.{◌≡◌, ◌≤◌, ◌+◌, ◌<◌, ◌^◌, [], true, false, drop, length, IfOk, IfSome, Err};
 ghost use Rattle.outside.specs.Causes.{Rose};
 ghost use Rattle.outside.specs.Files.{bytes_of};
-ghost use Rattle.table_tool.specs.Window.{Continues, IsFull};
+ghost use Rattle.table_tool.specs.Window.{Continues, HasEnough};
 
 use key_types::{ByteList, NoMemory};
-use outside::{Failed, FileId, Store};
+use outside::{FileId, Store};
 use std::alloc::Global;
 use std::marker::Model;
+use table_files::FileError;
 
 const PAGE: usize = 4096;
 
@@ -16,33 +17,6 @@ const ENOUGH: usize = 66_564;
 
 /// A window is read ahead to so many bytes.
 const AHEAD: usize = 262_144;
-
-/// Why a window isn't read ahead.
-#[derive(Clone, Copy, Debug, PartialEq, Eq)]
-pub enum ReadError {
-    StoreFault,
-    NoMemory,
-}
-
-impl From<NoMemory> for ReadError {
-    ghost use Rattle.table_tool.specs.declared.window.ReadError.TheVariants as read_error;
-
-    ghost from_gives = { λ _ e. e ≡ read_error.NoMemory };
-
-    fn from(_e: NoMemory) -> ReadError {
-        ReadError::NoMemory
-    }
-}
-
-impl From<Failed> for ReadError {
-    ghost use Rattle.table_tool.specs.declared.window.ReadError.TheVariants as read_error;
-
-    ghost from_gives = { λ _ e. e ≡ read_error.StoreFault };
-
-    fn from(_e: Failed) -> ReadError {
-        ReadError::StoreFault
-    }
-}
 
 /// The bytes of a file from a place on that were read and are not yet used. Contracts see it as `Unread`.
 #[derive(Drop)]
@@ -128,7 +102,7 @@ impl Window {
         store: &mut K,
         file: FileId,
         page: &mut [u8; PAGE],
-    ) -> Result<bool, ReadError>
+    ) -> Result<bool, FileError>
         ensures told { IfSome (K.files store.old) (λ m. Continues (bytes_of m file) self.old → IfOk result (λ _. Continues (bytes_of m file) self.new)) }
         ensures more { IfOk result (λ more. more ≡ true → length self.old.bytes < length self.new.bytes) }
         ensures end { IfOk result (λ more. more ≡ false → self.new.whole ≡ true) }
@@ -136,7 +110,7 @@ impl Window {
         ensures limit { self.new.limit ≡ self.old.limit }
         ensures files { K.files store.new ≡ K.files store.old }
         ensures later { K.faults store.old ≤ K.faults store.new }
-        ensures fault { result ≡ Err ReadError.StoreFault → Rose (K.faults store.old) (K.faults store.new) }
+        ensures fault { result ≡ Err FileError.StoreFault → Rose (K.faults store.old) (K.faults store.new) }
     {
         let end = self.at + self.unread().len() as u64;
         let found = store.read(file, end, page)?;
@@ -151,14 +125,14 @@ impl Window {
 
     /// Reads the file ahead page by page, until there is enough of it or it ends.
     #[inline(never)]
-    fn read_ahead<K: Store>(&mut self, store: &mut K, file: FileId) -> Result<(), ReadError>
+    fn read_ahead<K: Store>(&mut self, store: &mut K, file: FileId) -> Result<(), FileError>
         ensures told { IfSome (K.files store.old) (λ m. Continues (bytes_of m file) self.old → IfOk result (λ _. Continues (bytes_of m file) self.new)) }
-        ensures full { IfOk result (λ _. IsFull self.new) }
+        ensures full { IfOk result (λ _. HasEnough self.new) }
         ensures place { self.new.at ≡ self.old.at }
         ensures limit { self.new.limit ≡ self.old.limit }
         ensures files { K.files store.new ≡ K.files store.old }
         ensures later { K.faults store.old ≤ K.faults store.new }
-        ensures fault { result ≡ Err ReadError.StoreFault → Rose (K.faults store.old) (K.faults store.new) }
+        ensures fault { result ≡ Err FileError.StoreFault → Rose (K.faults store.old) (K.faults store.new) }
     {
         self.compact()?;
         let mut page = [0u8; PAGE];
@@ -172,14 +146,14 @@ impl Window {
     /// Reads the file ahead where the longest row isn't among the unused bytes and they don't end it.
     ///
     /// It is asked before each row, so the page stands in a function of its own: an array is paid for at entry.
-    pub fn fill<K: Store>(&mut self, store: &mut K, file: FileId) -> Result<(), ReadError>
+    pub fn fill<K: Store>(&mut self, store: &mut K, file: FileId) -> Result<(), FileError>
         ensures told { IfSome (K.files store.old) (λ m. Continues (bytes_of m file) self.old → IfOk result (λ _. Continues (bytes_of m file) self.new)) }
-        ensures full { IfOk result (λ _. IsFull self.new) }
+        ensures full { IfOk result (λ _. HasEnough self.new) }
         ensures place { self.new.at ≡ self.old.at }
         ensures limit { self.new.limit ≡ self.old.limit }
         ensures files { K.files store.new ≡ K.files store.old }
         ensures later { K.faults store.old ≤ K.faults store.new }
-        ensures fault { result ≡ Err ReadError.StoreFault → Rose (K.faults store.old) (K.faults store.new) }
+        ensures fault { result ≡ Err FileError.StoreFault → Rose (K.faults store.old) (K.faults store.new) }
     {
         if self.whole || self.unread().len() >= ENOUGH {
             return Ok(());

@@ -1,4 +1,8 @@
-use Rattle.std.proofs.Common.{rules, ◌∙◌}
+use Rattle.std.proofs.Common.{◌≡◌, ◌<◌, ◌^◌, ◌++◌, length, rules, ◌∙◌, subst}
+use Rattle.std.specs.FinMap as map
+use Rattle.outside.specs.Files.{LeavesPrefix, bytes_of}
+use Rattle.outside.specs.Told.{WhereTold}
+use Rattle.outside.specs.declared.store.FileId.{FileId}
 use Rattle.key_types.specs.Columns.{columns_of}
 use Rattle.data_file.specs.Listing.{data_bytes}
 use Rattle.table_tool.specs.Grouping.{grouped}
@@ -28,7 +32,8 @@ returns-in_err-append-clause-written g c =
     let columns = columns_of c.args.schema.now in
     let bytes = data_bytes c.args.schema.now.static_value (grouped columns c.args.rows.now.entries) in
     failed_flush columns f0 f2 c.from_residual-in_err-append.result bytes (search rules)
-    (schema_stopped columns f0 f1 f2 bytes c.as_slice.result.now (c.as_slice.ensures ∙ c.in_ok-text.ensures) c.in_ok-counts.ensures.written c.in_err-append.ensures.bytes)
+    (schema_stopped columns f0 f1 f2 bytes c.as_slice.result.now (c.as_slice.ensures ∙ c.in_ok-text.ensures) c.in_ok-counts.ensures.written
+    (subst (λ (f : FileId). WhereTold f1 f2 (λ ys zs. LeavesPrefix ys zs f c.as_slice.result.now)) c.schema_id.ensures c.in_err-append.ensures.bytes))
 
 pub returns-clause-written : goal.returns-clause-written
 returns-clause-written g c =
@@ -37,4 +42,6 @@ returns-clause-written g c =
     let f2 = g.K.Store.files c.append.new.self in
     let columns = columns_of c.args.schema.now in
     let bytes = data_bytes c.args.schema.now.static_value (grouped columns c.args.rows.now.entries) in
-    flushed columns f0 f1 f2 bytes c.as_slice.result.now (c.as_slice.ensures ∙ c.in_ok-text.ensures) c.in_ok-counts.ensures.written c.in_ok-append.ensures.bytes
+    flushed columns f0 f1 f2 bytes c.as_slice.result.now (c.as_slice.ensures ∙ c.in_ok-text.ensures) c.in_ok-counts.ensures.written
+    (subst (λ (f : FileId). WhereTold f1 f2 (λ ys zs. (zs ≡ map.insert ys f (bytes_of ys f ++ c.as_slice.result.now)) × (length (bytes_of ys f ++ c.as_slice.result.now) < 2 ^ 62)))
+    c.schema_id.ensures c.in_ok-append.ensures.bytes)

@@ -1,7 +1,7 @@
 use Rattle.std.proofs.Common.{◌≡◌, ◌+◌, ◌++◌}
 use Rattle.key_types.specs.Columns.{columns_of}
 use Rattle.table_tool.specs.Entries.{row_count}
-use Rattle.table_tool.specs.Grouping.{AreEntries}
+use Rattle.table_tool.specs.Grouping.{AreTableEntries}
 use Rattle.table_tool.specs.Printed.{entry_lines}
 use Rattle.table_tool.proofs.printing.print_rows.Given as goal
 
@@ -9,7 +9,7 @@ abbrev pub invariant-entries : goal.invariant-entries
 invariant-entries l =
     let columns = columns_of l.schema in
     record {
-      entries : AreEntries columns l.key-iterator;
+      entries : AreTableEntries columns l.key-iterator;
       lines : l.out ++ entry_lines columns l.key-iterator ≡ entry_lines columns l.rows.entries;
       count : l.count + row_count columns l.key-iterator ≡ row_count columns l.rows.entries;
     }

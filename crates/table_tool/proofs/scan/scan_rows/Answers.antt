@@ -1,10 +1,11 @@
 use Rattle.std.proofs.Common.{◌≡◌, refl, Ok, Err, Option, IfSome, inl, length, sym, ap, subst}
 use Rattle.outside.specs.Files.{Files, bytes_of}
-use Rattle.table_tool.specs.Standing.{data_id}
 use Rattle.key_types.specs.Columns.{columns_of}
 use Rattle.table_tool.proofs.EndLemmas.{end_damaged, end_memory, end_pushed, end_stopped, end_whole, refused, told_first}
 use Rattle.table_tool.specs.declared.status.Status.TheVariants as status
 use Rattle.table_tool.proofs.scan.scan_rows.Goals as goal
+use Rattle.table_files.specs.Names.{data_id}
+use Rattle.table_tool.specs.First.{first_generation}
 
 pub turn_all-requires-clause-bounded : goal.turn_all-requires-clause-bounded
 turn_all-requires-clause-bounded g c = c.new-scan.ensures.bounded (columns_of c.args.schema.now)
@@ -12,7 +13,7 @@ turn_all-requires-clause-bounded g c = c.new-scan.ensures.bounded (columns_of c.
 pub turn_all-requires-clause-fresh : goal.turn_all-requires-clause-fresh
 turn_all-requires-clause-fresh g c =
     c.new-scan.ensures.fresh (columns_of c.args.schema.now) _
-    (subst (λ (f : Option Files). IfSome f (λ m. length (bytes_of m data_id) ≡ c.in-Ok.limit)) (sym c.in-Ok.ensures.files) c.in-Ok.ensures.told)
+    (subst (λ (f : Option Files). IfSome f (λ m. length (bytes_of m (data_id first_generation)) ≡ c.in-Ok.limit)) (sym c.in-Ok.ensures.files) c.in-Ok.ensures.told)
 
 pub returns-in_default-clause-rows : goal.returns-in_default-clause-rows
 returns-in_default-clause-rows g c = refused _ _ _ _ _ status.StoreFault c.refuse.result (inl refl) c.refuse.ensures.status c.refuse.ensures.told

@@ -9,10 +9,10 @@ use Rattle.data_file.specs.Reading.{BeginsHead, NoHead}
 use Rattle.key_types.specs.Columns.{columns_of}
 use Rattle.key_printing.specs.Texts.{IsTextOf}
 use Rattle.table_tool.specs.declared.walk.Walk.{Walk}
-use Rattle.table_tool.specs.Standing.{fixed_entries}
 use Rattle.table_tool.specs.Steps.{IsFixedBehind, NoFixedBehind, inside_of}
 use Rattle.table_tool.proofs.StepLemmas.{Moving, halts_end, halts_fixed, halts_head, is_outside, moves_head, prints_fixed, room_there, text_anew}
 use Rattle.table_tool.proofs.walk.Walk.enter.Goals as goal
+use Rattle.table_files.specs.Standing.{static_entries}
 
 pub returns-then-is_empty-clause-step : goal.returns-then-is_empty-clause-step
 returns-then-is_empty-clause-step c = (
@@ -60,7 +60,7 @@ returns-clause-step c =
     let has = text_anew columns.partition key c.extend.new.self c.truncate-2.new.self c.write_string.new.out same c.truncate-2.ensures c.in_ok-write_string.ensures.ok in
     prints_fixed columns walk (record { window = c.pass.new.self; key = c.extend.new.self; text = c.write_string.new.out; inside = true; stop = walk.stop }) c.args.out.now c.put_fixed.new.out fixed has
     (c.in_ok-put_fixed.ensures c.extend.new.self (subst (IsTextOf columns.partition c.extend.new.self) (sym c.as_slice.ensures) has))
-    (subst (λ (k : List ℕ). Moving columns walk.window c.pass.new.self (inside_of walk) (Some k) (fixed_entries k fixed)) (sym same) moves)
+    (subst (λ (k : List ℕ). Moving columns walk.window c.pass.new.self (inside_of walk) (Some k) (static_entries k fixed)) (sym same) moves)
 
 pub returns-clause-key : goal.returns-clause-key
 returns-clause-key c =

@@ -1,0 +1,3 @@
+pub mod SchemaLemmas
+pub mod WalkLemmas
+mod Determined

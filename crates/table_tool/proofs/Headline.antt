@@ -1,0 +1,69 @@
+-- A `load`, and a `scan` over the files that it left.
+use Rattle.std.proofs.Common.{◌≡◌, ◌++◌, ℕ, List, Option, Some, Result, Ok, Err, refl, sym, ◌∙◌, subst}
+use Rattle.std.specs.Prelude.{IfSome}
+use Rattle.std.specs.FinMap as map
+use Rattle.std.specs.declared.string.String.{String}
+use Rattle.std.specs.declared.alloc.Global.{Global}
+use Rattle.outside.specs.Files.{Files}
+use Rattle.outside.specs.Told.{WhereTold}
+use Rattle.key_types.specs.Columns.{Columns}
+use Rattle.key_types.specs.Table.{Table}
+use Rattle.script_text.specs.Puts.{Put}
+use Rattle.script_text.specs.Script.{puts_of, script_of}
+use Rattle.script_text.specs.declared.script.Script.{Script}
+use Rattle.script_text.specs.declared.script.ScriptError.{ScriptError}
+use Rattle.script_text.specs.declared.script.ScriptError.TheVariants as script_error
+use Rattle.table_files.specs.Standing.{StandFor}
+use Rattle.table_tool.specs.declared.status.Status.{Status}
+use Rattle.table_tool.specs.declared.status.Status.TheVariants as status
+use Rattle.table_tool.specs.First.{first_generation}
+use Rattle.table_tool.specs.Laws.{Headline, PrintsAllPuts}
+use Rattle.table_tool.specs.Loading.{EndsLoad, LoadEnds, LoadPrints, loading, loading_of}
+use Rattle.table_tool.specs.Outcome.{IsOrNoMemory}
+use Rattle.table_tool.specs.Outside.{Outside, SinkFails, StoreFails}
+use Rattle.table_tool.specs.Printed.{rows_text}
+use Rattle.table_tool.specs.Rows.{rows_of, table_put}
+use Rattle.table_tool.specs.Scanning.{ScanEnds, ScanPrints}
+
+-- the script whose puts are taken
+accepted : (r : Result Script ScriptError) (puts : List Put) → loading_of r ≡ Ok puts → (script : Script) × (r ≡ Ok script) × (puts_of script.batches ≡ puts)
+accepted (Ok script) puts e = (script, refl, cc)
+accepted (Err (script_error.BadLine line cause)) puts e = cc
+accepted (Err script_error.TooLarge) puts e = cc
+accepted (Err script_error.NoMemory) puts e = cc
+
+module _ (columns : Columns) (files : Files) (puts : List Put) (before after : Outside) (result : Status) (told : before.files ≡ Some files) (ends : ScanEnds before after result)
+    (stand : StandFor files first_generation columns (table_put puts)) where
+  prints : WhereTold before.written after.written (ScanPrints columns result (rows_of puts) before.sink_faults after.sink_faults)
+  prints =
+      subst (λ (o : Option Files). IfSome o (λ m. (cs : Columns) (table : Table) → StandFor m first_generation cs table
+      → WhereTold before.written after.written (ScanPrints cs result (map.entries table) before.sink_faults after.sink_faults))) told ends.stand columns (table_put puts) stand
+
+  well : ¬ (StoreFails before after) → ¬ (SinkFails before after) → IsOrNoMemory status.Ok result
+  well =
+      subst (λ (o : Option Files). IfSome o (λ m. (cs : Columns) (table : Table) → StandFor m first_generation cs table
+      → ¬ (StoreFails before after) → ¬ (SinkFails before after) → IsOrNoMemory status.Ok result)) told ends.complete columns (table_put puts) stand
+
+  all_printed : result ≡ status.Ok → WhereTold before.written after.written (λ old new. new ≡ old ++ rows_text columns (rows_of puts))
+  all_printed ok = subst (λ (r : Status). WhereTold before.written after.written (ScanPrints columns r (rows_of puts) before.sink_faults after.sink_faults)) ok prints
+
+  all_puts : (bytes : List ℕ) → (script : Script) × (script_of columns bytes ≡ Ok script) × (puts_of script.batches ≡ puts) → PrintsAllPuts columns bytes before after result
+  all_puts bytes (script, is, of) = record {
+    script = script;
+    accepted = is;
+    printed = λ ok. subst (λ (ps : List Put). WhereTold before.written after.written (λ old new. new ≡ old ++ rows_text columns (rows_of ps))) (sym of) (all_printed ok);
+    complete = well;
+  }
+
+-- what a `load` that ended Ok has done
+loaded_well : (columns : Columns) (bytes : List ℕ) (files : Files) (before after : Outside) → before.left ≡ Some bytes → after.files ≡ Some files → LoadEnds columns before after status.Ok
+    → (puts : List Put) × (loading columns bytes ≡ Ok puts) × StandFor files first_generation columns (table_put puts)
+loaded_well columns bytes files before after left there ends =
+    let done : LoadPrints columns (loading columns bytes) before.files after.files status.Ok before.written after.written =
+    subst (λ (o : Option (List ℕ)). IfSome o (λ bs. EndsLoad columns (loading columns bs) before.files after.files status.Ok before.written after.written)) left ends.done in
+    (done.0, done.2, subst (λ (o : Option Files). IfSome o (λ new. StandFor new first_generation columns (table_put done.0))) there done.3.stand)
+
+pub headline : Headline
+headline words words' columns bytes files before between between' after result ask ask' left there also first second =
+    let done = loaded_well columns bytes files before between left there (first.load columns ask) in
+    all_puts columns files done.0 between' after result also (second.scan ask') done.2 bytes (accepted (script_of columns bytes) done.0 done.1)
