@@ -9,7 +9,7 @@ use Rattle.byteorder.specs.Numbers.{big_number-reads_back, length-bytes_high_fir
 use Rattle.bti_nodes.specs.Payloads.{bytes_for, unsigned_bytes, signed_bytes, doubled, IsFewest, IsUnsigned, IsSigned, NumbersRead}
 
 -- one to seven bytes that hold the number, and no fewer
-record Counted (n k : ℕ) : Type 0 where
+pub record Counted (n k : ℕ) : Type 0 where
   pub some : (1 ≤ k) × (k ≤ 7)
   pub fits : n < 256 ^ k
   pub half : 2 ^ (8 * k) ≡ 2 * 2 ^ (8 * k - 1)
@@ -25,7 +25,7 @@ counted_by false false false false true f n h p q r s t u = record { some = (ome
 counted_by false false false false false true n h p q r s t u = record { some = (omega arith, omega arith); fits = grind (arith, nat_tests); half = refl; whole = refl }
 counted_by false false false false false false n h p q r s t u = record { some = (omega arith, omega arith); fits = omega arith; half = refl; whole = refl }
 
-counted : (n : ℕ) → n < 2 ^ 56 → Counted n (bytes_for n)
+pub counted : (n : ℕ) → n < 2 ^ 56 → Counted n (bytes_for n)
 counted n h = counted_by (nat_lt n (2 ^ 8)) (nat_lt n (2 ^ 16)) (nat_lt n (2 ^ 24)) (nat_lt n (2 ^ 32)) (nat_lt n (2 ^ 40)) (nat_lt n (2 ^ 48)) n h refl refl refl refl refl refl
 
 upto : (a b c d : Bool) (x k : ℕ) → 5 ≤ k → x ≤ k → (if a then 1 else if b then 2 else if c then 3 else if d then 4 else x) ≤ k

@@ -1,3 +1,4 @@
 pub mod Prefixes
 pub mod Shared
 pub mod Among
+pub mod Sizes

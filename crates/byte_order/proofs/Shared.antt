@@ -83,18 +83,18 @@ front_is_apart (suc n) (x ∷ a) (y ∷ b) s d =
 
 -- ---- the order
 
-equal_is : (x y : ℕ) → nat_cmp x y ≡ Equal → x ≡ y
+pub equal_is : (x y : ℕ) → nat_cmp x y ≡ Equal → x ≡ y
 equal_is = exact_unsigned
 
-itself : (x y : ℕ) → x ≡ y → nat_cmp x y ≡ Equal
+pub itself : (x y : ℕ) → x ≡ y → nat_cmp x y ≡ Equal
 itself x y e = sym (nat_cmp_is x y Equal e)
 
-first_decides : (r o p : Ordering) → (r ≡ Equal → ⊥) → ordering_then r o ≡ Less → ordering_then r p ≡ Less
+pub first_decides : (r o p : Ordering) → (r ≡ Equal → ⊥) → ordering_then r o ≡ Less → ordering_then r p ≡ Less
 first_decides Less o p apart h = refl
 first_decides Equal o p apart h = absurd (apart refl)
 first_decides Greater o p apart h = h
 
-rest_decides : (r o : Ordering) → r ≡ Equal → ordering_then r o ≡ o
+pub rest_decides : (r o : Ordering) → r ≡ Equal → ordering_then r o ≡ o
 rest_decides Less o e = cc
 rest_decides Equal o e = refl
 rest_decides Greater o e = cc

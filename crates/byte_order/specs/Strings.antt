@@ -1,5 +1,5 @@
 -- Byte strings: prefixes, shortest unique prefixes and separators. This project's own.
-use Rattle.std.specs.Prelude.{◌≡◌, ℕ, ◌<◌, ◌≤◌, List, [], ◌∷◌, ◌++◌, length, take, Option, Some, None}
+use Rattle.std.specs.Prelude.{◌≡◌, ℕ, suc, ◌<◌, ◌≤◌, ◌==◌, max, List, [], ◌∷◌, ◌++◌, length, take, Option, Some, None, if◌then◌else◌}
 use Rattle.std.specs.declared.cmp.Ordering.TheVariants.{Less}
 use Rattle.key_types.specs.Table.{string_cmp}
 
@@ -54,3 +54,24 @@ last_of (string ∷ next ∷ strings) = last_of (next ∷ strings)
 abbrev pub first_of : List (List ℕ) → Option (List ℕ)
 first_of [] = None
 first_of (string ∷ strings) = Some string
+
+-- ---- how many bytes tell strings apart
+
+-- how many bytes both strings have at their front
+abbrev pub shared_size : List ℕ → List ℕ → ℕ
+shared_size [] b = 0
+shared_size (x ∷ a) [] = 0
+shared_size (x ∷ a) (y ∷ b) = if x == y then suc (shared_size a b) else 0
+
+-- the same of a string beside the key, where one is there
+abbrev pub shared_beside : Option (List ℕ) → List ℕ → ℕ
+shared_beside None key = 0
+shared_beside (Some other) key = shared_size key other
+
+-- how many bytes tell the key from both its neighbours
+abbrev pub unique_size : Option (List ℕ) → List ℕ → Option (List ℕ) → ℕ
+unique_size before key behind = suc (max (shared_beside before key) (shared_beside behind key))
+
+-- how many bytes of `next` tell it from `before`
+abbrev pub separator_size : List ℕ → List ℕ → ℕ
+separator_size before next = suc (shared_size before next)

@@ -8,6 +8,6 @@ mod shortest;
 #[cfg(test)]
 mod tests;
 
-pub use laws::law_unique_among_all;
+pub use laws::{law_separator_size, law_unique_among_all, law_unique_size};
 pub use order::{compare_bytes, is_prefix};
 pub use shortest::{separator_len, unique_len};

@@ -3,7 +3,7 @@
 ghost use Rattle.std.specs.Prelude.{◌≡◌, ◌≢◌, ◌≤◌, ◌<◌, [], length, option_copied, slice_index, take, IfSome, MatchOption};
 ghost use Rattle.std.specs.declared.cmp.Ordering.TheVariants.{Less};
 ghost use Rattle.key_types.specs.Table.{string_cmp};
-ghost use Rattle.byte_order.specs.Strings.{Differ, IsSeparatorLength, IsUniqueLength, neighbours};
+ghost use Rattle.byte_order.specs.Strings.{Differ, IsSeparatorLength, IsUniqueLength, neighbours, separator_size, unique_size};
 
 /// How many bytes a word has.
 const WORD: usize = 8;
@@ -41,7 +41,8 @@ pub fn unique_len(prev: Option<&[u8]>, key: &[u8], next: Option<&[u8]>) -> usize
     requires some { key.now ≢ [] }
     requires before { IfSome prev (λ prev. Differ prev.now key.now) }
     requires behind { IfSome next (λ next. Differ key.now next.now) }
-    ensures { IsUniqueLength key.now (neighbours (option_copied prev.entry) (option_copied next.entry)) result }
+    ensures shortest { IsUniqueLength key.now (neighbours (option_copied prev.entry) (option_copied next.entry)) result }
+    ensures size { result ≡ unique_size (option_copied prev.entry) key.now (option_copied next.entry) }
 {
     let before = match prev {
         Some(prev) => shared_len(prev, key),
@@ -57,7 +58,8 @@ pub fn unique_len(prev: Option<&[u8]>, key: &[u8], next: Option<&[u8]>) -> usize
 /// The length of the shortest prefix of `next` that is above `prev`, which is below `next`.
 pub fn separator_len(prev: &[u8], next: &[u8]) -> usize
     requires { string_cmp prev.now next.now ≡ Less }
-    ensures { IsSeparatorLength prev.now next.now result }
+    ensures shortest { IsSeparatorLength prev.now next.now result }
+    ensures size { result ≡ separator_size prev.now next.now }
 {
     shared_len(prev, next) + 1
 }

@@ -10,7 +10,7 @@ use crate::fixed::parse_fixed;
 use crate::parse::{ParseRow, head_in, parse_row};
 use bti_nodes::{Cause, Damage};
 use key_types::{ByteList, KeyBytes, NoMemory, Schema, ValueBytes};
-use outside::{Failed, FileId, Part, Store};
+use outside::{Failed, FileId, PAGE, Part, Store};
 use std::alloc::Global;
 
 /// The head of a partition: its string, and the place behind the head, where its static part begins or its rows do.
@@ -77,9 +77,6 @@ impl From<NoMemory> for DataError {
         DataError::NoMemory
     }
 }
-
-/// How many bytes one read of the store asks for.
-const PAGE: usize = 4096;
 
 /// Puts the next 4,096 bytes of the file behind those that are held from `at` on, and answers whether the file ended.
 fn read_more<K: Store>(

@@ -1,2 +1,3 @@
 mod Pieces
 mod Shelves
+pub mod Sets

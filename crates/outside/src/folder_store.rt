@@ -10,17 +10,21 @@ use std::{fs, io};
 /// Every file of a call that answers Ok has fewer bytes than this.
 const LIMIT: u64 = 0x4000_0000_0000_0000;
 
-/// A file that is held open.
+/// A file that is held open, with its length and the place at which its handle stands.
 #[derive(Drop)]
 struct Held<F: Drop> {
     file: FileId,
     handle: F,
+    length: u64,
+    position: u64,
 }
 
 /// The files in the folder in which the program was started. A file's name is its generation in decimal, `-`, and
 /// `Data.db`, `Partitions.db`, `Rows.db` or `Schema.txt`. This store tells no content.
 ///
-/// At most one file is held open for reads and one for appends, each the one that was used so last.
+/// At most one file is held open for reads and one for appends, each the one that was used so last. A file's length is asked for
+/// when it is opened, and a read moves its handle only where it stands elsewhere. An append closes the file that is held for reads, so
+/// that its length is asked for anew.
 #[derive(Drop)]
 pub struct FolderStore<'a, R: Files + AllocGlobal> {
     files: &'a R,
@@ -51,6 +55,7 @@ impl<'a, R: Files + AllocGlobal> Store for FolderStore<'a, R> {
     ghost reads = { λ s. s.reads };
 
     fn append(&mut self, file: FileId, piece: &[u8]) -> Result<(), Failed> {
+        self.reading = None;
         match append_to(self.files, self.appending.take(), file, piece) {
             Ok(held) => {
                 self.appending = Some(held);
@@ -114,6 +119,17 @@ fn under_limit(length: u64) -> io::Result<u64>
     Ok(length)
 }
 
+/// The file that was just opened.
+fn held_from<F: OpenFile + Drop>(file: FileId, handle: F) -> io::Result<Held<F>> {
+    let length = under_limit(handle.metadata()?.len())?;
+    Ok(Held {
+        file,
+        handle,
+        length,
+        position: 0,
+    })
+}
+
 /// The file, opened for appends. It is made where it is not there.
 fn open_to_append<R: Files + AllocGlobal>(
     files: &R,
@@ -127,7 +143,7 @@ fn open_to_append<R: Files + AllocGlobal>(
             let mut options = OpenOptions::new();
             options.append(true).create(true);
             let handle = options.open(files, name.as_str())?;
-            Ok(Held { file, handle })
+            held_from(file, handle)
         }
     }
 }
@@ -143,7 +159,7 @@ fn open_to_read<R: Files + AllocGlobal>(
         _ => {
             let name = name_of(files, file)?;
             match fs::File::open(files, name.as_str()) {
-                Ok(handle) => Ok(Some(Held { file, handle })),
+                Ok(handle) => Ok(Some(held_from(file, handle)?)),
                 Err(e) if e.kind() == ErrorKind::NotFound => Ok(None),
                 Err(e) => Err(e),
             }
@@ -159,9 +175,9 @@ fn append_to<R: Files + AllocGlobal>(
     piece: &[u8],
 ) -> io::Result<Held<R::File>> {
     let mut held = open_to_append(files, held, file)?;
-    let length = under_limit(held.handle.metadata()?.len())?;
-    under_limit(length.saturating_add(piece.len() as u64))?;
+    let length = under_limit(held.length.saturating_add(piece.len() as u64))?;
     write_whole(&mut held.handle, piece)?;
+    held.length = length;
     Ok(held)
 }
 
@@ -190,12 +206,14 @@ fn read_from<R: Files + AllocGlobal>(
     let Some(mut held) = open_to_read(files, held, file)? else {
         return Ok((None, 0));
     };
-    let length = under_limit(held.handle.metadata()?.len())?;
-    if at >= length {
+    if at >= held.length {
         return Ok((Some(held), 0));
     }
-    held.handle.seek(SeekFrom::Start(at))?;
+    if held.position != at {
+        held.handle.seek(SeekFrom::Start(at))?;
+    }
     let count = fill(&mut held.handle, into)?;
+    held.position = at.saturating_add(count as u64);
     Ok((Some(held), count))
 }
 

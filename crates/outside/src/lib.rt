@@ -1,4 +1,4 @@
-//! What the program meets outside: a source of bytes, a sink of bytes, a store of files, and a gate.
+//! What the program meets outside: a source of bytes, a sink of bytes, a store of files, and a gate; and a counter of steps.
 #![tactic(auto)]
 
 mod adapters;
@@ -10,6 +10,7 @@ mod mem_source;
 mod mem_store;
 mod script;
 mod shelf;
+mod steps;
 mod store;
 mod stream;
 
@@ -20,7 +21,8 @@ pub use mem_sink::MemSink;
 pub use mem_source::MemSource;
 pub use mem_store::MemStore;
 pub use script::Fail;
-pub use store::{FileId, Part, Store};
+pub use steps::Steps;
+pub use store::{FileId, PAGE, Part, Store};
 pub use stream::{Failed, Sink, Source};
 
 #[cfg(test)]

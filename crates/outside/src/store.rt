@@ -88,6 +88,9 @@ impl Ord for FileId {
     }
 }
 
+/// How many bytes of a file one read asks for at most.
+pub const PAGE: usize = 4096;
+
 /// Where files stand.
 pub trait Store {
     /// The files, where the store tells them.
