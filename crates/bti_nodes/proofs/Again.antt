@@ -11,7 +11,7 @@ use Rattle.bti_nodes.specs.declared.table.Shape.{Shape}
 use Rattle.bti_nodes.specs.declared.table.Shape.TheVariants.{Leaf, Short, Single, Sparse, Dense}
 use Rattle.bti_nodes.specs.declared.node.Child.{Child}
 use Rattle.bti_nodes.specs.declared.node.NodeError.{NodeError}
-use Rattle.bti_nodes.specs.Grammar.{Node, byte_at, kind_at, places_of, body_len, payload_len, distance_at, child_of, child_by, node_by, in_order, each_below, points_back, all_point_back, payload_stands, refusal, node_at}
+use Rattle.bti_nodes.specs.Grammar.{Node, byte_at, node_kind_at, places_of, body_len, payload_len, distance_at, child_at_distance, child_by, node_by, in_order, each_below, points_back, all_point_back, payload_stands, refusal, node_at}
 use Rattle.bti_nodes.specs.Spelling.{Parts, IsAscending, distance_of, last_letter, body}
 use Rattle.bti_nodes.specs.Laws.{standing}
 
@@ -49,7 +49,7 @@ no_refusal kind places position bytes a b c d =
     let long : nat_lt (length bytes) (body_len kind.shape kind.width places + payload_len kind.shape (byte_at bytes 0 % 16)) ≡ false = grind (arith, nat_tests) in
     rw (long, b, c, d)
 
-node_when : (kind : Kind) (places position : ℕ) (bytes : List ℕ) → kind_at bytes ≡ kind → places_of kind.shape bytes ≡ places → refusal kind places bytes position ≡ None → node_at bytes position ≡ Ok (node_by kind places bytes)
+node_when : (kind : Kind) (places position : ℕ) (bytes : List ℕ) → node_kind_at bytes ≡ kind → places_of kind.shape bytes ≡ places → refusal kind places bytes position ≡ None → node_at bytes position ≡ Ok (node_by kind places bytes)
 unfolding node_at
 node_when kind places position bytes a b c = rw (a, b, c)
 
@@ -62,7 +62,7 @@ unfolding all_point_back
 points kind places position bytes h = each_from places _ h
 
 -- the parts of a node are read
-pub again : (kind : Kind) (places position : ℕ) (bytes payload : List ℕ) (cs : List Child) → kind_at bytes ≡ kind → places_of kind.shape bytes ≡ places
+pub again : (kind : Kind) (places position : ℕ) (bytes payload : List ℕ) (cs : List Child) → node_kind_at bytes ≡ kind → places_of kind.shape bytes ≡ places
     → body_len kind.shape kind.width places + payload_len kind.shape (byte_at bytes 0 % 16) ≤ length bytes → in_order kind.shape places bytes ≡ true
     → ((i : ℕ) → i < places → points_back kind.shape places position i (distance_at kind.shape kind.width places bytes i) ≡ true) → payload_stands kind.shape (byte_at bytes 0 % 16) ≡ true
     → take (payload_len kind.shape (byte_at bytes 0 % 16)) (drop (body_len kind.shape kind.width places) bytes) ≡ payload
@@ -81,7 +81,7 @@ own_len n h = grind (arith, nat_tests)
 pub short_len : (n : ℕ) → n ≤ 7 → nat_lt n 8 ≡ true
 short_len n h = grind (arith, nat_tests)
 
-pub child_again : (letter d : ℕ) → 0 < d → child_of letter d ≡ Some (record { byte = letter; distance = d })
+pub child_again : (letter d : ℕ) → 0 < d → child_at_distance letter d ≡ Some (record { byte = letter; distance = d })
 child_again letter zero h = absurd (omega arith)
 child_again letter (suc d) h = refl
 

@@ -9,7 +9,7 @@ use Rattle.bti_nodes.specs.declared.table.Kind.{Kind}
 use Rattle.bti_nodes.specs.declared.table.Shape.TheVariants.{Leaf, Short, Single}
 use Rattle.bti_nodes.specs.declared.node.Child.{Child}
 use Rattle.bti_nodes.specs.Table.{kinds}
-use Rattle.bti_nodes.specs.Grammar.{byte_at, kind_at, places_of, body_len, payload_len, letter_at, distance_at, child_of, child_by, in_order, points_back, payload_stands, node_at, bits_at}
+use Rattle.bti_nodes.specs.Grammar.{byte_at, node_kind_at, places_of, body_len, payload_len, letter_at, distance_at, child_at_distance, child_by, in_order, points_back, payload_stands, node_at, bits_at}
 use Rattle.bti_nodes.specs.Spelling.{body}
 use Rattle.bti_nodes.specs.Laws.{standing}
 use Rattle.bti_nodes.proofs.Packed.{Whole, bits_behind}
@@ -36,7 +36,7 @@ pub leaf_again : Again 0 (record { shape = Leaf; width = 0 })
 leaf_again p rest position good = leaf_of p.payload p.children rest position good.short good.shape.0 good.shape.1
 
 -- one child
-one : (kind : Kind) (position letter d : ℕ) (bytes payload : List ℕ) → kind_at bytes ≡ kind → places_of kind.shape bytes ≡ 1
+one : (kind : Kind) (position letter d : ℕ) (bytes payload : List ℕ) → node_kind_at bytes ≡ kind → places_of kind.shape bytes ≡ 1
     → body_len kind.shape kind.width 1 + payload_len kind.shape (byte_at bytes 0 % 16) ≤ length bytes → in_order kind.shape 1 bytes ≡ true
     → points_back kind.shape 1 position 0 d ≡ true → payload_stands kind.shape (byte_at bytes 0 % 16) ≡ true
     → take (payload_len kind.shape (byte_at bytes 0 % 16)) (drop (body_len kind.shape kind.width 1) bytes) ≡ payload
@@ -44,7 +44,7 @@ one : (kind : Kind) (position letter d : ℕ) (bytes payload : List ℕ) → kin
 unfolding child_by
 one kind position letter d bytes payload k n size order back stands paid here far some =
     let first : child_by kind 1 bytes 0 ≡ Some (record { byte = letter; distance = d }) =
-    ap (λ l. child_of l (distance_at kind.shape kind.width 1 bytes 0)) here ∙ ap (λ x. child_of letter x) far ∙ child_again letter d some in
+    ap (λ l. child_at_distance l (distance_at kind.shape kind.width 1 bytes 0)) here ∙ ap (λ x. child_at_distance letter x) far ∙ child_again letter d some in
     let each : (i : ℕ) → i < 1 → points_back kind.shape 1 position i (distance_at kind.shape kind.width 1 bytes i) ≡ true =
     λ i l. (let e : i ≡ 0 = omega arith in ap (λ j. points_back kind.shape 1 position j (distance_at kind.shape kind.width 1 bytes j)) e ∙ ap (λ x. points_back kind.shape 1 position 0 x) far ∙ back) in
     again kind 1 position bytes payload (record { byte = letter; distance = d } ∷ []) k n size order each stands paid (ap (λ (c : Option Child). standing (c ∷ [])) first)

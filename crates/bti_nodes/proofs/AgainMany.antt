@@ -13,7 +13,7 @@ use Rattle.bti_nodes.specs.declared.table.Kind.{Kind}
 use Rattle.bti_nodes.specs.declared.table.Shape.TheVariants.{Leaf, Sparse, Dense}
 use Rattle.bti_nodes.specs.declared.node.Child.{Child}
 use Rattle.bti_nodes.specs.Table.{kinds}
-use Rattle.bti_nodes.specs.Grammar.{byte_at, body_len, payload_len, letter_at, distance_at, child_of, child_by, ascends, in_order, points_back, node_at, bits_at}
+use Rattle.bti_nodes.specs.Grammar.{byte_at, body_len, payload_len, letter_at, distance_at, child_at_distance, child_by, ascends, in_order, points_back, node_at, bits_at}
 use Rattle.bti_nodes.specs.Spelling.{body, row_of_bits, letter_of, distance_of, IsAscending, greatest, first_letter, last_letter, distance_under, dense_row}
 use Rattle.bti_nodes.specs.Packing.{RowReads}
 use Rattle.bti_nodes.specs.Laws.{standing}
@@ -71,7 +71,7 @@ sparse_child width n h i cs bytes more e l d some =
     let letter : get_or bytes (2 + i) 0 ≡ c.byte = ap (λ l. get_or l (2 + i) 0) e ∙ two_more h n i (map letter_of cs ++ more) ∙ letter_is cs more i l in
     let distance : distance_at Sparse width n bytes i ≡ c.distance = d ∙ distance_is cs i l in
     let there : 0 < c.distance = omega (arith, some, distance_is cs i l) in
-    ap (λ k. child_of k (distance_at Sparse width n bytes i)) letter ∙ ap (λ k. child_of c.byte k) distance ∙ child_again c.byte c.distance there
+    ap (λ k. child_at_distance k (distance_at Sparse width n bytes i)) letter ∙ ap (λ k. child_at_distance c.byte k) distance ∙ child_again c.byte c.distance there
 
 pub sparse_again : (number width : ℕ) → number < 16 → get_or kinds number (record { shape = Leaf; width = 0 }) ≡ record { shape = Sparse; width = width } → RowFits width → RowReads width → Again number (record { shape = Sparse; width = width })
 sparse_again number width small kind_is row_fits row_reads p rest position good =
@@ -135,9 +135,9 @@ under_rest : (c : Child) (cs : List Child) (b : ℕ) → c.byte ≢ b → distan
 under_rest c cs b ne = skip (c.byte == b) c.distance (distance_under cs b) (grind (arith, nat_tests))
 
 abbrev child_at : List Child → ℕ → Option Child
-child_at cs b = child_of b (distance_under cs b)
+child_at cs b = child_at_distance b (distance_under cs b)
 
-same_child : (c : Child) (b : ℕ) → c.byte ≡ b → 0 < c.distance → child_of b c.distance ≡ Some c
+same_child : (c : Child) (b : ℕ) → c.byte ≡ b → 0 < c.distance → child_at_distance b c.distance ≡ Some c
 same_child c b e some = child_again b c.distance some ∙ ap (λ k. Some (record { byte = k; distance = c.distance })) (sym e)
 
 again_from : (a b : ℕ) (cs : List Child) → b ≤ a → IsAscending a cs → IsAscending b cs
@@ -150,10 +150,10 @@ standing_range a zero (c ∷ cs) up below some = absurd (omega (arith, up.0, bel
 standing_range a (suc n) [] up below some = standing_range (a + 1) n [] tt tt tt
 standing_range a (suc n) (c ∷ cs) up below some =
     elim (eq-or-lt_of_le up.0) as (λ _. standing (child_at (c ∷ cs) a ∷ map (child_at (c ∷ cs)) (range_with_len (a + 1) n)) ≡ c ∷ cs) [
-      | inl same ↦ ap (λ x. standing (x ∷ map (child_at (c ∷ cs)) (range_with_len (a + 1) n))) (ap (child_of a) (under_head c cs a (sym same)) ∙ same_child c a (sym same) some.0)
-          ∙ ap (λ l. c ∷ standing l) (same_from (child_at (c ∷ cs)) (child_at cs) (a + 1) n (λ i l m. ap (child_of i) (under_rest c cs i (omega arith))))
+      | inl same ↦ ap (λ x. standing (x ∷ map (child_at (c ∷ cs)) (range_with_len (a + 1) n))) (ap (child_at_distance a) (under_head c cs a (sym same)) ∙ same_child c a (sym same) some.0)
+          ∙ ap (λ l. c ∷ standing l) (same_from (child_at (c ∷ cs)) (child_at cs) (a + 1) n (λ i l m. ap (child_at_distance i) (under_rest c cs i (omega arith))))
           ∙ ap (λ l. c ∷ l) (standing_range (a + 1) n cs (again_from (c.byte + 1) (a + 1) cs (omega arith) up.1) (wider (a + suc n) (a + 1 + n) cs (omega arith) below.1) some.1)
-      | inr less ↦ ap (λ x. standing (x ∷ map (child_at (c ∷ cs)) (range_with_len (a + 1) n))) (ap (child_of a) (absent c.byte a (c ∷ cs) (omega arith, up.1) less))
+      | inr less ↦ ap (λ x. standing (x ∷ map (child_at (c ∷ cs)) (range_with_len (a + 1) n))) (ap (child_at_distance a) (absent c.byte a (c ∷ cs) (omega arith, up.1) less))
           ∙ standing_range (a + 1) n (c ∷ cs) (omega arith, up.1) (wider (a + suc n) (a + 1 + n) (c ∷ cs) (omega arith) below) some
     ]
 
@@ -225,7 +225,7 @@ dense_by number width c cs payload rest position small kind_is row_fits row_read
     (λ z. omega (arith, under_head c cs (first + i) (omega arith), some.0))
     (λ z. (let e : first + i ≡ last = omega arith in omega (arith, under_last 0 c cs good.order some, ap (distance_under all) e))) in
     let places_are : map (child_by kind places bytes) (range_with_len 0 places) ≡ map (child_at all) (range_with_len first places) =
-    same_from (child_by kind places bytes) (λ i. child_at all (first + i)) 0 places (λ i z l. ap (child_of (first + i)) (distances i (omega arith)))
+    same_from (child_by kind places bytes) (λ i. child_at all (first + i)) 0 places (λ i z l. ap (child_at_distance (first + i)) (distances i (omega arith)))
     ∙ shifted (child_at all) first 0 places ∙ (let z : first + 0 ≡ first = omega arith in ap (λ a. map (child_at all) (range_with_len a places)) z) in
     again kind places position bytes payload all (ap (λ n. get_or kinds n (record { shape = Leaf; width = 0 })) high ∙ kind_is) refl size in_page back
     (ap (λ k. nat_lt k 8) low ∙ short_len len good.short) (behind front payload rest _ _ (omega (arith, n_row)) paid)

@@ -9,7 +9,7 @@ use Rattle.bti_nodes.specs.declared.table.Shape.{Shape}
 use Rattle.bti_nodes.specs.declared.table.Shape.TheVariants.{Leaf, Short, Single, Sparse, Dense}
 use Rattle.bti_nodes.specs.declared.node.Child.{Child}
 use Rattle.bti_nodes.specs.declared.node.NodeError.{NodeError}
-use Rattle.bti_nodes.specs.Grammar.{Node, Climbs, AllBack, byte_at, kind_at, places_of, body_len, payload_len, letter_at, distance_at, child_of, child_by, node_by, ascends, in_order, all_point_back, refusal, unless, node_at}
+use Rattle.bti_nodes.specs.Grammar.{Node, Climbs, AllBack, byte_at, node_kind_at, places_of, body_len, payload_len, letter_at, distance_at, child_at_distance, child_by, node_by, ascends, in_order, all_point_back, refusal, unless, node_at}
 use Rattle.bti_nodes.proofs.Places.{all_back}
 
 pub unless_ok : (r : Option NodeError) (n m : Node) → unless r n ≡ Ok m → (r ≡ None) × (n ≡ m)
@@ -38,11 +38,11 @@ lower l h [] e c = tt
 lower l h (None ∷ cs) e c = lower l h cs e c
 lower l h (Some x ∷ cs) e c = (omega (arith, c.0), c.1)
 
-put : (letter d low : ℕ) (cs : List (Option Child)) → low ≤ letter → Climbs (letter + 1) cs → Climbs low (child_of letter d ∷ cs)
+put : (letter d low : ℕ) (cs : List (Option Child)) → low ≤ letter → Climbs (letter + 1) cs → Climbs low (child_at_distance letter d ∷ cs)
 put letter zero low cs e c = lower low (letter + 1) cs (omega arith) c
 put letter (suc d) low cs e c = (e, c)
 
-climb : (letter d : ℕ → ℕ) (low a n : ℕ) → (0 < n → low ≤ letter a) → ((i : ℕ) → a ≤ i → i + 1 < a + n → letter i < letter (i + 1)) → Climbs low (map (λ i. child_of (letter i) (d i)) (range_with_len a n))
+climb : (letter d : ℕ → ℕ) (low a n : ℕ) → (0 < n → low ≤ letter a) → ((i : ℕ) → a ≤ i → i + 1 < a + n → letter i < letter (i + 1)) → Climbs low (map (λ i. child_at_distance (letter i) (d i)) (range_with_len a n))
 climb letter d low a zero first up = tt
 climb letter d low a (suc n) first up =
     put (letter a) (d a) low _ (first (omega arith))
@@ -90,7 +90,7 @@ climbs_by kind n bytes e h o =
 pub node_climbs : (bytes : List ℕ) (position : ℕ) (n : Node) → node_at bytes position ≡ Ok n → Climbs 0 n.places × AllBack position n.places
 unfolding node_at
 node_climbs bytes position n h =
-    let kind = kind_at bytes in
+    let kind = node_kind_at bytes in
     let places = places_of kind.shape bytes in
     let r = unless_ok _ _ n h in
     let s = stood kind places bytes position r.0 in

@@ -7,7 +7,7 @@ use Rattle.std.specs.Prelude.{if◌then◌else◌, ◌==◌}
 use Rattle.std.specs.List.{range_with_len}
 use Rattle.bti_nodes.specs.declared.node.Child.{Child}
 use Rattle.bti_nodes.specs.declared.table.Kind.{Kind}
-use Rattle.bti_nodes.specs.Grammar.{Holds, ascends, letter_at, distance_at, child_of, child_by, child_under, is_under}
+use Rattle.bti_nodes.specs.Grammar.{KeepsView, ascends, letter_at, distance_at, child_at_distance, child_by, child_under, is_under}
 use Rattle.bti_nodes.proofs.Climbing.{goes_up, letters_up}
 
 -- what rises from each number to the next rises
@@ -28,7 +28,7 @@ no_lower xs h i j l m =
       | inr less ↦ (let up = rises (λ k. get_or xs k 0) (length xs) i j (λ k s. goes_up xs k h s) less m in omega (arith, up))
     ]
 
-other : (b letter d : ℕ) → letter ≢ b → is_under b (child_of letter d) ≡ false
+other : (b letter d : ℕ) → letter ≢ b → is_under b (child_at_distance letter d) ≡ false
 other b letter zero ne = refl
 other b letter (suc d) ne = grind (arith, nat_tests)
 
@@ -36,27 +36,27 @@ pass : (b : ℕ) (c : Option Child) (cs : List (Option Child)) (t : Bool) → t 
 pass b c cs true h = cc
 pass b c cs false h = refl
 
-none_under : (letter d : ℕ → ℕ) (b a n : ℕ) → ((i : ℕ) → a ≤ i → i < a + n → letter i ≢ b) → child_under b (map (λ i. child_of (letter i) (d i)) (range_with_len a n)) ≡ None
+none_under : (letter d : ℕ → ℕ) (b a n : ℕ) → ((i : ℕ) → a ≤ i → i < a + n → letter i ≢ b) → child_under b (map (λ i. child_at_distance (letter i) (d i)) (range_with_len a n)) ≡ None
 none_under letter d b a zero h = refl
 none_under letter d b a (suc n) h =
-    pass b (child_of (letter a) (d a)) (map (λ i. child_of (letter i) (d i)) (range_with_len (a + 1) n)) (is_under b (child_of (letter a) (d a))) (other b (letter a) (d a) (h a (omega arith) (omega arith)))
+    pass b (child_at_distance (letter a) (d a)) (map (λ i. child_at_distance (letter i) (d i)) (range_with_len (a + 1) n)) (is_under b (child_at_distance (letter a) (d a))) (other b (letter a) (d a) (h a (omega arith) (omega arith)))
     ∙ none_under letter d b (a + 1) n (λ i l m. h i (omega arith) (omega arith))
 
 pick : (t : Bool) (c d : Option Child) → t ≡ true → (if t then c else d) ≡ c
 pick true c d h = refl
 pick false c d h = cc
 
-here : (letter d b : ℕ) (cs : List (Option Child)) → letter ≡ b → child_under b cs ≡ None → child_under b (child_of letter d ∷ cs) ≡ child_of letter d
+here : (letter d b : ℕ) (cs : List (Option Child)) → letter ≡ b → child_under b cs ≡ None → child_under b (child_at_distance letter d ∷ cs) ≡ child_at_distance letter d
 here letter zero b cs e h = h
-here letter (suc d) b cs e h = pick (letter == b) (child_of letter (suc d)) (child_under b cs) (grind (arith, nat_tests))
+here letter (suc d) b cs e h = pick (letter == b) (child_at_distance letter (suc d)) (child_under b cs) (grind (arith, nat_tests))
 
-found_under : (letter d : ℕ → ℕ) (b a n i : ℕ) → a ≤ i → i < a + n → letter i ≡ b → ((j : ℕ) → a ≤ j → j < a + n → j ≢ i → letter j ≢ b) → child_under b (map (λ i. child_of (letter i) (d i)) (range_with_len a n)) ≡ child_of (letter i) (d i)
+found_under : (letter d : ℕ → ℕ) (b a n i : ℕ) → a ≤ i → i < a + n → letter i ≡ b → ((j : ℕ) → a ≤ j → j < a + n → j ≢ i → letter j ≢ b) → child_under b (map (λ i. child_at_distance (letter i) (d i)) (range_with_len a n)) ≡ child_at_distance (letter i) (d i)
 found_under letter d b a zero i l m e h = absurd (omega arith)
 found_under letter d b a (suc n) i l m e h =
-    let rest = map (λ i. child_of (letter i) (d i)) (range_with_len (a + 1) n) in
-    elim (eq-or-lt_of_le l) as (λ _. child_under b (child_of (letter a) (d a) ∷ rest) ≡ child_of (letter i) (d i)) [
-      | inl same ↦ here (letter a) (d a) b rest (ap letter same ∙ e) (none_under letter d b (a + 1) n (λ j l m. h j (omega arith) (omega arith) (omega arith))) ∙ ap (λ k. child_of (letter k) (d k)) same
-      | inr less ↦ pass b (child_of (letter a) (d a)) rest (is_under b (child_of (letter a) (d a))) (other b (letter a) (d a) (h a (omega arith) (omega arith) (omega arith)))
+    let rest = map (λ i. child_at_distance (letter i) (d i)) (range_with_len (a + 1) n) in
+    elim (eq-or-lt_of_le l) as (λ _. child_under b (child_at_distance (letter a) (d a) ∷ rest) ≡ child_at_distance (letter i) (d i)) [
+      | inl same ↦ here (letter a) (d a) b rest (ap letter same ∙ e) (none_under letter d b (a + 1) n (λ j l m. h j (omega arith) (omega arith) (omega arith))) ∙ ap (λ k. child_at_distance (letter k) (d k)) same
+      | inr less ↦ pass b (child_at_distance (letter a) (d a)) rest (is_under b (child_at_distance (letter a) (d a))) (other b (letter a) (d a) (h a (omega arith) (omega arith) (omega arith)))
           ∙ found_under letter d b (a + 1) n i (omega arith) (omega arith) e (λ j l m ne. h j (omega arith) (omega arith) ne)
     ]
 
@@ -74,7 +74,7 @@ equal f n i j up a c same =
     ]
 
 -- one place has it, since the bytes rise
-pub one_found : (kind : Kind) (places b i : ℕ) (bytes : List ℕ) → Holds kind places bytes → i < places → letter_at kind.shape kind.width bytes i ≡ b → child_by kind places bytes i ≡ child_under b (map (child_by kind places bytes) (range_with_len 0 places))
+pub one_found : (kind : Kind) (places b i : ℕ) (bytes : List ℕ) → KeepsView kind places bytes → i < places → letter_at kind.shape kind.width bytes i ≡ b → child_by kind places bytes i ≡ child_under b (map (child_by kind places bytes) (range_with_len 0 places))
 unfolding child_by
 one_found kind places b i bytes holds l e =
     let letter = letter_at kind.shape kind.width bytes in

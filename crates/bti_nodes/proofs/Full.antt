@@ -8,8 +8,8 @@ use Rattle.bti_nodes.specs.declared.table.Kind.{Kind}
 use Rattle.bti_nodes.specs.declared.table.Shape.{Shape}
 use Rattle.bti_nodes.specs.declared.table.Shape.TheVariants.{Leaf, Short, Single, Sparse, Dense}
 use Rattle.bti_nodes.specs.declared.node.Child.{Child}
-use Rattle.bti_nodes.specs.Grammar.{Node, byte_at, kind_at, places_of, body_len, payload_len, letter_at, distance_at, child_of, child_by, node_by, in_order, points_back, payload_stands, all_point_back, refusal, node_at}
-use Rattle.bti_nodes.specs.Children.{IsFull, HasByte, HaveBytes}
+use Rattle.bti_nodes.specs.Grammar.{Node, byte_at, node_kind_at, places_of, body_len, payload_len, letter_at, distance_at, child_at_distance, child_by, node_by, in_order, points_back, payload_stands, all_point_back, refusal, node_at}
+use Rattle.bti_nodes.specs.Children.{HasPayloadOrChild, HasByte, HaveBytes}
 use Rattle.bti_nodes.proofs.Climbing.{unless_ok, guard, not_false}
 use Rattle.bti_nodes.proofs.Places.{at_each}
 
@@ -29,7 +29,7 @@ stands kind places bytes position h =
     record { long = grind (arith, nat_tests); order = not_false _ b.0; back = not_false _ c.0; paid = not_false _ d.0 }
 
 -- a place with a distance has a child
-first_there : (letter d : ℕ) (payload : List ℕ) (cs : List (Option Child)) → 0 < d → IsFull payload (child_of letter d ∷ cs)
+first_there : (letter d : ℕ) (payload : List ℕ) (cs : List (Option Child)) → 0 < d → HasPayloadOrChild payload (child_at_distance letter d ∷ cs)
 first_there letter zero payload cs h = absurd (omega arith)
 first_there letter (suc d) payload cs h = tt
 
@@ -47,7 +47,7 @@ some_distance Single places position distance h = far distance position h
 some_distance Sparse places position distance h = far distance position h
 some_distance Dense places position distance h = far distance position h
 
-full_places : (kind : Kind) (places : ℕ) (bytes payload : List ℕ) (position : ℕ) → 0 < places → all_point_back kind places bytes position ≡ true → IsFull payload (map (child_by kind places bytes) (range_with_len 0 places))
+full_places : (kind : Kind) (places : ℕ) (bytes payload : List ℕ) (position : ℕ) → 0 < places → all_point_back kind places bytes position ≡ true → HasPayloadOrChild payload (map (child_by kind places bytes) (range_with_len 0 places))
 unfolding all_point_back child_by
 full_places kind zero bytes payload position some h = absurd (omega arith)
 full_places kind (suc n) bytes payload position some h =
@@ -63,10 +63,10 @@ leaf_payload low bytes h l =
     grind (arith, nat_tests, common_steps)
 
 full_by : (shape : Shape) (width places position : ℕ) (bytes : List ℕ) → places ≡ places_of shape bytes → Stands (record { shape = shape; width = width }) places bytes position
-    → IsFull (take (payload_len shape (byte_at bytes 0 % 16)) (drop (body_len shape width places) bytes)) (map (child_by (record { shape = shape; width = width }) places bytes) (range_with_len 0 places))
+    → HasPayloadOrChild (take (payload_len shape (byte_at bytes 0 % 16)) (drop (body_len shape width places) bytes)) (map (child_by (record { shape = shape; width = width }) places bytes) (range_with_len 0 places))
 unfolding in_order
 full_by Leaf width places position bytes e s =
-    subst (λ n. IsFull (take (payload_len Leaf (byte_at bytes 0 % 16)) (drop (body_len Leaf width n) bytes)) (map (child_by (record { shape = Leaf; width = width }) n bytes) (range_with_len 0 n))) (sym e)
+    subst (λ n. HasPayloadOrChild (take (payload_len Leaf (byte_at bytes 0 % 16)) (drop (body_len Leaf width n) bytes)) (map (child_by (record { shape = Leaf; width = width }) n bytes) (range_with_len 0 n))) (sym e)
     (leaf_payload (byte_at bytes 0 % 16) bytes s.paid s.long)
 full_by Short width places position bytes e s = full_places (record { shape = Short; width = width }) places bytes (take (payload_len Short (byte_at bytes 0 % 16)) (drop (body_len Short width places) bytes)) position (omega arith) s.back
 full_by Single width places position bytes e s = full_places (record { shape = Single; width = width }) places bytes (take (payload_len Single (byte_at bytes 0 % 16)) (drop (body_len Single width places) bytes)) position (omega arith) s.back
@@ -77,17 +77,17 @@ full_by Sparse width places position bytes e s =
 full_by Dense width places position bytes e s = full_places (record { shape = Dense; width = width }) places bytes (take (payload_len Dense (byte_at bytes 0 % 16)) (drop (body_len Dense width places) bytes)) position (omega arith) s.back
 
 -- a node that is not refused has a payload or a child
-pub full_node : (kind : Kind) (places : ℕ) (bytes : List ℕ) (position : ℕ) → places ≡ places_of kind.shape bytes → refusal kind places bytes position ≡ None → IsFull (node_by kind places bytes).payload (node_by kind places bytes).places
+pub full_node : (kind : Kind) (places : ℕ) (bytes : List ℕ) (position : ℕ) → places ≡ places_of kind.shape bytes → refusal kind places bytes position ≡ None → HasPayloadOrChild (node_by kind places bytes).payload (node_by kind places bytes).places
 unfolding node_by
 full_node kind places bytes position e h = full_by kind.shape kind.width places position bytes e (stands kind places bytes position h)
 
-pub node_full : (bytes : List ℕ) (position : ℕ) (n : Node) → node_at bytes position ≡ Ok n → IsFull n.payload n.places
+pub node_full : (bytes : List ℕ) (position : ℕ) (n : Node) → node_at bytes position ≡ Ok n → HasPayloadOrChild n.payload n.places
 unfolding node_at
 node_full bytes position n h =
-    let kind = kind_at bytes in
+    let kind = node_kind_at bytes in
     let places = places_of kind.shape bytes in
     let r = unless_ok _ _ n h in
-    subst (λ (m : Node). IsFull m.payload m.places) r.1 (full_node kind places bytes position refl r.0)
+    subst (λ (m : Node). HasPayloadOrChild m.payload m.places) r.1 (full_node kind places bytes position refl r.0)
 
 small_letter : (shape : Shape) (width places : ℕ) (bytes : List ℕ) → ((i : ℕ) → get_or bytes i 0 < 256) → places ≡ places_of shape bytes → in_order shape places bytes ≡ true → (i : ℕ) → i < places → letter_at shape width bytes i < 256
 unfolding letter_at in_order
@@ -100,7 +100,7 @@ small_letter Dense width places bytes small e o i l =
     let fits : byte_at bytes 1 + places ≤ 256 = grind (arith, nat_tests) in
     omega arith
 
-has_byte : (letter d : ℕ) → letter < 256 → HasByte (child_of letter d)
+has_byte : (letter d : ℕ) → letter < 256 → HasByte (child_at_distance letter d)
 has_byte letter zero h = tt
 has_byte letter (suc d) h = h
 

@@ -1,6 +1,5 @@
 pub mod Least
 pub mod Rows
-pub mod Kept
 pub mod Choice
 pub mod Sizes
 pub mod Places

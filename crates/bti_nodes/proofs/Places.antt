@@ -8,7 +8,7 @@ use Rattle.bti_nodes.specs.declared.table.Kind.{Kind}
 use Rattle.bti_nodes.specs.declared.table.Shape.{Shape}
 use Rattle.bti_nodes.specs.declared.table.Shape.TheVariants.{Leaf, Short, Single, Sparse, Dense}
 use Rattle.bti_nodes.specs.declared.node.Child.{Child}
-use Rattle.bti_nodes.specs.Grammar.{child_under, is_under, AllBack, IsBack, child_by, child_of, letter_at, distance_at, each_below, points_back, all_point_back, node_by}
+use Rattle.bti_nodes.specs.Grammar.{child_under, is_under, AllBack, IsBack, child_by, child_at_distance, letter_at, distance_at, each_below, points_back, all_point_back, node_by}
 
 skip : (b : ℕ) (c : Option Child) (cs : List (Option Child)) (t : Bool) → is_under b c ≡ t → t ≡ false → (if t then c else child_under b cs) ≡ child_under b cs
 skip b c cs true e h = cc
@@ -50,7 +50,7 @@ no_farther Single places position i distance h = inside false position distance 
 no_farther Sparse places position i distance h = inside false position distance h
 no_farther Dense places position i distance h = inside (nat_lt 0 i && nat_lt (i + 1) places) position distance h
 
-is_back : (letter position distance : ℕ) → distance ≤ position → IsBack position (child_of letter distance)
+is_back : (letter position distance : ℕ) → distance ≤ position → IsBack position (child_at_distance letter distance)
 is_back letter position zero h = tt
 is_back letter position (suc d) h = (omega arith, h)
 

@@ -4,9 +4,9 @@ use Rattle.std.specs.List.{AllByRecursion}
 use Rattle.bti_nodes.specs.declared.node.Child.{Child}
 
 -- the child, or where there is none the other
-abbrev pub or_else : Option Child → Option Child → Option Child
-or_else None d = d
-or_else (Some c) d = Some c
+abbrev pub child_or : Option Child → Option Child → Option Child
+child_or None d = d
+child_or (Some c) d = Some c
 
 -- the child, where its byte passes the test
 abbrev pub if_child : (ℕ → Bool) → Option Child → Option Child
@@ -16,12 +16,12 @@ if_child p (Some c) = if p c.byte then Some c else None
 -- the first child whose byte passes the test
 abbrev pub first_child : (ℕ → Bool) → List (Option Child) → Option Child
 first_child p [] = None
-first_child p (c ∷ cs) = or_else (if_child p c) (first_child p cs)
+first_child p (c ∷ cs) = child_or (if_child p c) (first_child p cs)
 
 -- the last child whose byte passes the test
 abbrev pub last_child : (ℕ → Bool) → List (Option Child) → Option Child
 last_child p [] = None
-last_child p (c ∷ cs) = or_else (last_child p cs) (if_child p c)
+last_child p (c ∷ cs) = child_or (last_child p cs) (if_child p c)
 
 abbrev pub any : ℕ → Bool
 any b = true
@@ -50,7 +50,7 @@ abbrev pub HaveBytes : List (Option Child) → Type 0
 HaveBytes places = AllByRecursion HasByte places
 
 -- a node without places has a payload, and otherwise its first place has a child
-abbrev pub IsFull : List ℕ → List (Option Child) → Type 0
-IsFull payload [] = 0 < length payload
-IsFull payload (None ∷ cs) = ⊥
-IsFull payload (Some c ∷ cs) = Unit {0}
+abbrev pub HasPayloadOrChild : List ℕ → List (Option Child) → Type 0
+HasPayloadOrChild payload [] = 0 < length payload
+HasPayloadOrChild payload (None ∷ cs) = ⊥
+HasPayloadOrChild payload (Some c ∷ cs) = Unit {0}

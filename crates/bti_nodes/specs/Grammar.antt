@@ -26,8 +26,8 @@ bits_at bytes at width =
     let end = div_ceil (at + width) 8 in
     big_number (end - first) (drop first bytes) / 2 ^ (8 * end - (at + width)) % 2 ^ width
 
-abbrev pub kind_at : List ℕ → Kind
-kind_at bytes = get_or kinds (byte_at bytes 0 / 16) (record { shape = Leaf; width = 0 })
+abbrev pub node_kind_at : List ℕ → Kind
+node_kind_at bytes = get_or kinds (byte_at bytes 0 / 16) (record { shape = Leaf; width = 0 })
 
 -- the widths that the types of a shape have
 abbrev pub IsWidth : Shape → ℕ → Type 0
@@ -38,13 +38,13 @@ IsWidth Sparse width = (0 < width) × (width ≤ 40)
 IsWidth Dense width = (0 < width) × ((width ≤ 40) ⊎ (width ≡ 64))
 
 -- the widths that a row of bits has: twelve bits, or whole bytes up to eight
-abbrev pub IsRow : ℕ → Type 0
-IsRow width = (width ≡ 12) ⊎ ((width % 8 ≡ 0) × (8 ≤ width) × (width ≤ 64))
+abbrev pub IsRowWidth : ℕ → Type 0
+IsRowWidth width = (width ≡ 12) ⊎ ((width % 8 ≡ 0) × (8 ≤ width) × (width ≤ 64))
 
 -- the distances of sparse and dense types are a row of bits
 abbrev pub HasRow : Shape → ℕ → Type 0
-HasRow Sparse width = IsRow width
-HasRow Dense width = IsRow width
+HasRow Sparse width = IsRowWidth width
+HasRow Dense width = IsRowWidth width
 HasRow _ width = Unit {0}
 
 -- how many places for children
@@ -88,12 +88,12 @@ unfoldable pub distance_at : Shape → ℕ → ℕ → List ℕ → ℕ → ℕ
 distance_at shape width places bytes i = bits_at bytes (first_bit shape places + i * width) width
 
 -- a distance 0 is no child
-abbrev pub child_of : ℕ → ℕ → Option Child
-child_of letter zero = None
-child_of letter (suc d) = Some (record { byte = letter; distance = suc d })
+abbrev pub child_at_distance : ℕ → ℕ → Option Child
+child_at_distance letter zero = None
+child_at_distance letter (suc d) = Some (record { byte = letter; distance = suc d })
 
 unfoldable pub child_by : Kind → ℕ → List ℕ → ℕ → Option Child
-child_by kind places bytes i = child_of (letter_at kind.shape kind.width bytes i) (distance_at kind.shape kind.width places bytes i)
+child_by kind places bytes i = child_at_distance (letter_at kind.shape kind.width bytes i) (distance_at kind.shape kind.width places bytes i)
 
 unfoldable pub node_by : Kind → ℕ → List ℕ → Node
 node_by kind places bytes = record {
@@ -148,12 +148,12 @@ unless (Some e) node = Err e
 -- The node that begins with the bytes, at a position of the file; or the first reason why there is none.
 unfoldable pub node_at : List ℕ → ℕ → Result Node NodeError
 node_at bytes position =
-    let kind = kind_at bytes in
+    let kind = node_kind_at bytes in
     let places = places_of kind.shape bytes in
     unless (refusal kind places bytes position) (node_by kind places bytes)
 
 -- what a view of a node keeps
-pub record Holds (kind : Kind) (places : ℕ) (bytes : List ℕ) : Type 0 where
+pub record KeepsView (kind : Kind) (places : ℕ) (bytes : List ℕ) : Type 0 where
   pub width : IsWidth kind.shape kind.width
   pub places_are : places ≡ places_of kind.shape bytes
   pub few : places ≤ 256

@@ -2,7 +2,7 @@
 ghost use Rattle.std.specs.Prelude.{[], ◌≡◌, ◌<◌, ◌≤◌, ◌+◌, ◌-◌, ◌*◌, ◌/◌, ◌^◌, ◌++◌, ◌∷◌, length, map, OnOk, OnErr, take, ℕ, get_or, true};
 ghost use Rattle.std.specs.List.{flat_map, range_with_len, AllByRecursion};
 ghost use Rattle.byteorder.specs.Endian.{big_bytes};
-ghost use Rattle.bti_nodes.specs.Grammar.{IsRow, IsWidth, HasRow};
+ghost use Rattle.bti_nodes.specs.Grammar.{IsRowWidth, IsWidth, HasRow};
 ghost use Rattle.bti_nodes.specs.Spelling.{body, outline_by, IsNear, twelves, row_of_bits, letter_of, distance_of, IsAscending, distance_under, dense_row, first_letter, IsNode, node_bytes, parts_of, bytes_in, node_size, node_weight};
 
 use crate::node::{Child, NodeParts};
@@ -79,7 +79,7 @@ fn put_letters(children: &[Child], out: &mut ByteList) -> Result<(), NoMemory>
 
 /// Appends numbers of `width` bits as a row of bits.
 fn put_row(ds: &[u64], width: usize, out: &mut ByteList) -> Result<(), NoMemory>
-    requires width { IsRow width }
+    requires width { IsRowWidth width }
     requires fit { AllByRecursion (λ d. d < 2 ^ width) ds.now }
     ensures ok { OnOk result (out.new ≡ out.old ++ row_of_bits width ds.now) }
     ensures kept { take (length out.old) out.new ≡ out.old }
@@ -180,7 +180,7 @@ fn put_sparse(
     requires number { number ≤ 14 }
     requires short { payload ≤ 7 }
     requires few { length children.now < 256 }
-    requires width { IsRow width }
+    requires width { IsRowWidth width }
     requires fits { AllByRecursion (λ d. d < 2 ^ width) (map distance_of children.now) }
     ensures ok { OnOk result (out.new ≡ out.old ++ (16 * number + payload) ∷ length children.now ∷ (map letter_of children.now ++ row_of_bits width (map distance_of children.now))) }
     ensures kept { take (length out.old) out.new ≡ out.old }
@@ -205,7 +205,7 @@ fn put_dense(
     requires short { o.now.payload ≤ 7 }
     requires order { IsAscending o.now.first children.now }
     requires last { o.now.first ≤ o.now.last }
-    requires width { IsRow width }
+    requires width { IsRowWidth width }
     requires fits { AllByRecursion (λ d. d < 2 ^ width) (map (distance_under children.now) (range_with_len o.now.first (o.now.last - o.now.first + 1))) }
     ensures ok { OnOk result (out.new ≡ out.old ++ (16 * number + o.now.payload) ∷ o.now.first ∷ (o.now.last - o.now.first) ∷ row_of_bits width (map (distance_under children.now) (range_with_len o.now.first (o.now.last - o.now.first + 1)))) }
     ensures kept { take (length out.old) out.new ≡ out.old }

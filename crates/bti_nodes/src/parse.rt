@@ -1,6 +1,6 @@
 //! The grammar of nodes, read: what bytes are a node, and why others are none.
 ghost use Rattle.std.specs.Prelude.{◌≡◌, ◌<◌, ◌≤◌, ◌^◌, ◌+◌, ◌-◌, ◌*◌, ◌/◌, ◌%◌, length, None, Some, Option, IfNone, IsTrue, true};
-ghost use Rattle.bti_nodes.specs.Grammar.{IsWidth, byte_at, places_of, body_len, payload_len, distance_at, ascends, in_order, each_below, points_back, payload_stands, refusal, all_point_back, Holds};
+ghost use Rattle.bti_nodes.specs.Grammar.{IsWidth, byte_at, places_of, body_len, payload_len, distance_at, ascends, in_order, each_below, points_back, payload_stands, refusal, all_point_back, KeepsView};
 
 use crate::bits::{bits_at, byte_at};
 use crate::node::NodeError;
@@ -134,7 +134,7 @@ pub fn refusal(kind: Kind, places: usize, bytes: &[u8], position: u64) -> Option
     requires places { places ≡ places_of kind.shape bytes.now }
     requires few { places ≤ 256 }
     ensures refused { result ≡ refusal kind places bytes.now position }
-    ensures holds { IfNone result (Holds kind places bytes.now) }
+    ensures holds { IfNone result (KeepsView kind places bytes.now) }
     ensures back { IfNone result (IsTrue (all_point_back kind places bytes.now position)) }
 {
     let low = bytes[0] & 15;

@@ -1,6 +1,6 @@
 //! The sixteen types of nodes (after BtiFormat.md; numbers, names and greatest distances are this project's own).
 ghost use Rattle.std.specs.Prelude.{◌≡◌, ◌<◌, ◌≤◌, ◌^◌, length};
-ghost use Rattle.bti_nodes.specs.Grammar.{kind_at, IsWidth, HasRow, body_len};
+ghost use Rattle.bti_nodes.specs.Grammar.{node_kind_at, IsWidth, HasRow, body_len};
 ghost use Rattle.bti_nodes.specs.Spelling.{kind_of_number};
 
 /// How the children of a node stand.
@@ -97,7 +97,7 @@ const KINDS: [Kind; 16] = [
 /// The type that a node's first byte names, in its high four bits.
 pub fn kind_of(bytes: &[u8]) -> Kind
     requires { 0 < length bytes.now }
-    ensures kind { result ≡ kind_at bytes.now }
+    ensures kind { result ≡ node_kind_at bytes.now }
     ensures width { IsWidth result.shape result.width }
 {
     kind_by(usize::from(bytes[0] >> 4))

@@ -1,8 +1,8 @@
 //! A node that was read, in the bytes of its page.
 ghost use Rattle.std.specs.Prelude.{◌≡◌, ◌≢◌, ◌<◌, ◌≤◌, ◌+◌, ◌-◌, ◌%◌, ℕ, length, drop, get_or, None, Some, Ok, Err, Result, MatchOption, IfOk, IsTrue, true, map};
 ghost use Rattle.std.specs.List.{range_with_len};
-ghost use Rattle.bti_nodes.specs.Grammar.{Node, IsWidth, ascends, places_of, body_len, payload_len, letter_at, node_by, in_order, node_at, child_by, child_under, AllBack, Climbs, Holds};
-ghost use Rattle.bti_nodes.specs.Children.{first_child, last_child, any, child_below, child_above, least_child, greatest_child, HaveBytes, IsFull};
+ghost use Rattle.bti_nodes.specs.Grammar.{Node, IsWidth, ascends, places_of, body_len, payload_len, letter_at, node_by, in_order, node_at, child_by, child_under, AllBack, Climbs, KeepsView};
+ghost use Rattle.bti_nodes.specs.Children.{first_child, last_child, any, child_below, child_above, least_child, greatest_child, HaveBytes, HasPayloadOrChild};
 
 use crate::bits::byte_at;
 use crate::node::{Child, NodeError};
@@ -21,13 +21,13 @@ pub struct NodeView<'a> {
 
 impl<'a> Model for NodeView<'a> {
     ghost use Rattle.std.specs.Prelude.{◌≡◌, ◌≤◌, ◌+◌, ◌%◌, length};
-    ghost use Rattle.bti_nodes.specs.Grammar.{Node, Holds, node_by};
+    ghost use Rattle.bti_nodes.specs.Grammar.{Node, KeepsView, node_by};
 
     ghost Value = { Node };
 
     ghost view = { λ v. node_by v.kind v.places v.bytes.now };
 
-    ghost invariant = { λ v. Holds v.kind v.places v.bytes.now };
+    ghost invariant = { λ v. KeepsView v.kind v.places v.bytes.now };
 }
 
 /// The node that begins at place `at` of a page, which is `position` bytes from the start of its file; or the first
@@ -39,7 +39,7 @@ pub fn parse_node(page: &[u8], at: usize, position: u64) -> Result<NodeView<'_>,
     ensures back { IfOk result (λ n. AllBack position n.places) }
     ensures climbs { IfOk result (λ n. Climbs 0 n.places) }
     ensures bytes { IfOk result (λ n. HaveBytes n.places) }
-    ensures full { IfOk result (λ n. IsFull n.payload n.places) }
+    ensures full { IfOk result (λ n. HasPayloadOrChild n.payload n.places) }
 {
     let (_, bytes) = page.split_at(at);
     let kind = kind_of(bytes);
@@ -143,7 +143,7 @@ fn letter_at(kind: Kind, bytes: &[u8], i: usize) -> u8
 /// The child at a place.
 #[tactic(auto, unfolding(crate::specs::Grammar::child_by))]
 fn child_at(kind: Kind, places: usize, bytes: &[u8], i: usize) -> Option<Child>
-    requires holds { Holds kind places bytes.now }
+    requires holds { KeepsView kind places bytes.now }
     requires place { i < places }
     ensures { result ≡ child_by kind places bytes.now i }
 {
@@ -161,7 +161,7 @@ fn child_at(kind: Kind, places: usize, bytes: &[u8], i: usize) -> Option<Child>
 /// The place whose transition byte is that byte.
 #[tactic(auto, unfolding(crate::specs::Grammar::letter_at, crate::specs::Grammar::in_order))]
 fn place_under(kind: Kind, places: usize, bytes: &[u8], byte: u8) -> Option<usize>
-    requires { Holds kind places bytes.now }
+    requires { KeepsView kind places bytes.now }
     ensures { MatchOption result ((i : ℕ) → i < places → letter_at kind.shape kind.width bytes.now i ≢ byte) (λ i. (i < places) × (letter_at kind.shape kind.width bytes.now i ≡ byte)) }
 {
     match kind.shape {
@@ -203,7 +203,7 @@ fn place_among(letters: &[u8], byte: u8) -> Option<usize>
 
 /// The child under a byte.
 fn find_by(kind: Kind, places: usize, bytes: &[u8], byte: u8) -> Option<Child>
-    requires { Holds kind places bytes.now }
+    requires { KeepsView kind places bytes.now }
     ensures { result ≡ child_under byte (map (child_by kind places bytes.now) (range_with_len 0 places)) }
 {
     match place_under(kind, places, bytes, byte) {
@@ -219,7 +219,7 @@ pub fn node_of(page: &[u8], at: usize, position: u64) -> Result<NodeView<'_>, No
     ensures back { IfOk result (λ n. AllBack position n.places) }
     ensures climbs { IfOk result (λ n. Climbs 0 n.places) }
     ensures bytes { IfOk result (λ n. HaveBytes n.places) }
-    ensures full { IfOk result (λ n. IsFull n.payload n.places) }
+    ensures full { IfOk result (λ n. HasPayloadOrChild n.payload n.places) }
 {
     if at < page.len() {
         parse_node(page, at, position)
@@ -244,7 +244,7 @@ fn count_among(letters: &[u8], byte: u8) -> usize
 /// How many places stand under bytes that are less than a byte.
 #[tactic(auto, unfolding(crate::specs::Grammar::letter_at, crate::specs::Grammar::in_order))]
 fn count_below(kind: Kind, places: usize, bytes: &[u8], byte: u8) -> usize
-    requires { Holds kind places bytes.now }
+    requires { KeepsView kind places bytes.now }
     ensures within { result ≤ places }
     ensures less { (i : ℕ) → i < result → letter_at kind.shape kind.width bytes.now i < byte }
     ensures others { (i : ℕ) → result ≤ i → i < places → byte ≤ letter_at kind.shape kind.width bytes.now i }
@@ -276,7 +276,7 @@ fn count_below(kind: Kind, places: usize, bytes: &[u8], byte: u8) -> usize
 
 /// How many places stand under bytes that are not greater than a byte.
 fn count_to(kind: Kind, places: usize, bytes: &[u8], byte: u8) -> usize
-    requires { Holds kind places bytes.now }
+    requires { KeepsView kind places bytes.now }
     ensures within { result ≤ places }
     ensures others { (i : ℕ) → i < result → letter_at kind.shape kind.width bytes.now i ≤ byte }
     ensures greater { (i : ℕ) → result ≤ i → i < places → byte < letter_at kind.shape kind.width bytes.now i }
@@ -291,7 +291,7 @@ fn count_to(kind: Kind, places: usize, bytes: &[u8], byte: u8) -> usize
 
 /// The first child at a place from `from` on.
 fn first_from(kind: Kind, places: usize, bytes: &[u8], from: usize) -> Option<Child>
-    requires holds { Holds kind places bytes.now }
+    requires holds { KeepsView kind places bytes.now }
     requires within { from ≤ places }
     ensures { result ≡ first_child any (map (child_by kind places bytes.now) (range_with_len from (places - from))) }
 {
@@ -305,7 +305,7 @@ fn first_from(kind: Kind, places: usize, bytes: &[u8], from: usize) -> Option<Ch
 
 /// The last child at a place before `end`.
 fn last_before(kind: Kind, places: usize, bytes: &[u8], end: usize) -> Option<Child>
-    requires holds { Holds kind places bytes.now }
+    requires holds { KeepsView kind places bytes.now }
     requires within { end ≤ places }
     ensures { result ≡ last_child any (map (child_by kind places bytes.now) (range_with_len 0 end)) }
 {
@@ -321,7 +321,7 @@ fn last_before(kind: Kind, places: usize, bytes: &[u8], end: usize) -> Option<Ch
 
 /// The child under the greatest byte that is less than a byte.
 fn find_below(kind: Kind, places: usize, bytes: &[u8], byte: u8) -> Option<Child>
-    requires { Holds kind places bytes.now }
+    requires { KeepsView kind places bytes.now }
     ensures { result ≡ child_below byte (map (child_by kind places bytes.now) (range_with_len 0 places)) }
 {
     last_before(kind, places, bytes, count_below(kind, places, bytes, byte))
@@ -329,7 +329,7 @@ fn find_below(kind: Kind, places: usize, bytes: &[u8], byte: u8) -> Option<Child
 
 /// The child under the least byte that is greater than a byte.
 fn find_above(kind: Kind, places: usize, bytes: &[u8], byte: u8) -> Option<Child>
-    requires { Holds kind places bytes.now }
+    requires { KeepsView kind places bytes.now }
     ensures { result ≡ child_above byte (map (child_by kind places bytes.now) (range_with_len 0 places)) }
 {
     first_from(kind, places, bytes, count_to(kind, places, bytes, byte))

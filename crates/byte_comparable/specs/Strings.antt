@@ -33,14 +33,14 @@ string_of ts vs =
     if nat_eq (value_count vs) (count_of ts) then checked_string (first_misfit_from 0 ts vs) (key_string ts vs) else Err WrongCount
 
 -- the last byte of a bound string
-abbrev pub last_of : Side → ℕ
-last_of Before = before_rows
-last_of After = after_rows
+abbrev pub bound_end : Side → ℕ
+bound_end Before = before_rows
+bound_end After = after_rows
 
 -- the string of leading components on a side of all rows that have them
 abbrev pub bound_of : Side → Kinds → Vals → Result (List ℕ) KeyError
 bound_of side ts vs =
-    if nat_le (value_count vs) (count_of ts) then checked_string (first_misfit_from 0 ts vs) (bound_with (last_of side) ts vs) else Err WrongCount
+    if nat_le (value_count vs) (count_of ts) then checked_string (first_misfit_from 0 ts vs) (bound_with (bound_end side) ts vs) else Err WrongCount
 
 -- what is expected, unless memory ran out
 abbrev pub AnswersString : Result (List ℕ) KeyError → Result (List ℕ) KeyError → Type 0

@@ -5,7 +5,7 @@ ghost use Rattle.byte_comparable.specs.declared.strings.KeyError.TheVariants.{No
 ghost use Rattle.key_types.specs.Kinds.{kinds_of, values_of};
 ghost use Rattle.key_types.specs.Layout.{count_of};
 ghost use Rattle.byte_comparable.specs.Encoding.{components, bound_with, LeadFits};
-ghost use Rattle.byte_comparable.specs.Strings.{value_count, string_of, bound_of, last_of, first_misfit_from, checked_string, AnswersString};
+ghost use Rattle.byte_comparable.specs.Strings.{value_count, string_of, bound_of, bound_end, first_misfit_from, checked_string, AnswersString};
 
 use crate::encoding::{SEPARATOR, TERMINATOR, encode_into};
 use key_types::{ByteList, KeyBytes, NoMemory, Schema, TypeList, ValueList, fits};
@@ -201,7 +201,7 @@ pub fn bound_string(
 
 /// The last byte of a bound string.
 fn last_byte_of(side: Side) -> u8
-    ensures { result ≡ last_of side }
+    ensures { result ≡ bound_end side }
 {
     match side {
         Side::Before => BEFORE,

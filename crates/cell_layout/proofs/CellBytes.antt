@@ -5,26 +5,26 @@ use Rattle.std.proofs.lemmas.Option.{get_or_from_slice_get}
 use Rattle.std.proofs.lemmas.List.{get_or-drop, get_or-take}
 use Rattle.std.proofs.lemmas.List.FromFn.{get_or-map-range_with_len}
 use Rattle.std.specs.List.{range_with_len}
-use Rattle.cell_layout.specs.Words.{half_of, byte_of, AreBytes}
+use Rattle.cell_layout.specs.Words.{half_of, byte_of, ItemsAreBytes}
 use Rattle.cell_layout.specs.Cells.{number_of_bytes, pair, chain_cell, padded, lone_word, lone_words}
 
 -- an element of bytes is one
-pub byte_there : (xs : List ℕ) (i b : ℕ) → AreBytes xs → slice_get xs i ≡ Some b → b < 256
+pub byte_there : (xs : List ℕ) (i b : ℕ) → ItemsAreBytes xs → slice_get xs i ≡ Some b → b < 256
 byte_there xs i b h e = let is : slice_index xs i ≡ b = get_or_from_slice_get xs i b 0 e in let small : slice_index xs i < 256 = h i in omega arith
 
-pub no_bytes : AreBytes []
+pub no_bytes : ItemsAreBytes []
 no_bytes k = omega arith
 
-pub bytes_taken : (n : ℕ) (xs : List ℕ) → AreBytes xs → AreBytes (take n xs)
+pub bytes_taken : (n : ℕ) (xs : List ℕ) → ItemsAreBytes xs → ItemsAreBytes (take n xs)
 bytes_taken zero xs h k = omega arith
 bytes_taken (suc n) [] h k = omega arith
 bytes_taken (suc n) (x ∷ xs) h zero = h 0
 bytes_taken (suc n) (x ∷ xs) h (suc k) = bytes_taken n xs (λ i. h (suc i)) k
 
-pub bytes_dropped : (n : ℕ) (xs : List ℕ) → AreBytes xs → AreBytes (drop n xs)
+pub bytes_dropped : (n : ℕ) (xs : List ℕ) → ItemsAreBytes xs → ItemsAreBytes (drop n xs)
 bytes_dropped n xs h k = subst (λ (x : ℕ). x < 256) (sym (get_or-drop n xs k 0)) (h (n + k))
 
-pub bytes_mapped : (f : ℕ → ℕ) (a n : ℕ) → ((i : ℕ) → f i < 256) → AreBytes (map f (range_with_len a n))
+pub bytes_mapped : (f : ℕ → ℕ) (a n : ℕ) → ((i : ℕ) → f i < 256) → ItemsAreBytes (map f (range_with_len a n))
 bytes_mapped f a zero h k = omega arith
 bytes_mapped f a (suc n) h zero = h a
 bytes_mapped f a (suc n) h (suc k) = bytes_mapped f (a + 1) n h k
@@ -45,12 +45,12 @@ byte_none zero l = refl
 byte_none (suc i) l = byte_next 0 0 i (omega arith) (omega arith) ∙ byte_none i (omega arith)
 
 -- the bytes of the number that some bytes make
-pub byte_of_number : (xs : List ℕ) (i : ℕ) → i < 8 → AreBytes xs → byte_of (number_of_bytes xs) i ≡ slice_index xs i
+pub byte_of_number : (xs : List ℕ) (i : ℕ) → i < 8 → ItemsAreBytes xs → byte_of (number_of_bytes xs) i ≡ slice_index xs i
 byte_of_number [] i l h = byte_none i l
 byte_of_number (b ∷ bs) zero l h = let small : b < 256 = h 0 in let e : (b + 256 * number_of_bytes bs) / 2 ^ 0 % 256 ≡ b = omega arith in e
 byte_of_number (b ∷ bs) (suc i) l h = byte_next b (number_of_bytes bs) i (h 0) (omega arith) ∙ byte_of_number bs i (omega arith) (λ k. h (suc k))
 
-number_small : (xs : List ℕ) → length xs ≤ 4 → AreBytes xs → number_of_bytes xs < 2 ^ 32
+number_small : (xs : List ℕ) → length xs ≤ 4 → ItemsAreBytes xs → number_of_bytes xs < 2 ^ 32
 number_small [] l h = omega arith
 number_small (a ∷ []) l h = let x : a < 256 = h 0 in omega arith
 number_small (a ∷ b ∷ []) l h = let x : a < 256 = h 0 in let y : b < 256 = h 1 in omega arith
@@ -73,7 +73,7 @@ pair_byte low high (suc (suc (suc zero))) l = let e : (high * 2 ^ 32 + low) / 2 
 pair_byte low high (suc (suc (suc (suc i)))) l = absurd (omega arith)
 
 -- the bytes and the tail of a chain cell's words
-module _ (bytes : List ℕ) (tail : ℕ) (small : AreBytes bytes) where
+module _ (bytes : List ℕ) (tail : ℕ) (small : ItemsAreBytes bytes) where
   part : (n d i : ℕ) → i < n → i < 8 → byte_of (number_of_bytes (take n (drop d bytes))) i ≡ slice_index bytes (d + i)
   part n d i l e = byte_of_number (take n (drop d bytes)) i e (bytes_taken n (drop d bytes) (bytes_dropped d bytes small)) ∙ (get_or-take n (drop d bytes) i 0 l ∙ get_or-drop d bytes i 0)
 
@@ -98,7 +98,7 @@ module _ (bytes : List ℕ) (tail : ℕ) (small : AreBytes bytes) where
       four (a ∷ b ∷ c ∷ d ∷ xs) = omega arith
 
 -- the bytes of a padded cell
-pub bytes_padded : (bytes : List ℕ) → AreBytes bytes → AreBytes (padded bytes)
+pub bytes_padded : (bytes : List ℕ) → ItemsAreBytes bytes → ItemsAreBytes (padded bytes)
 unfolding padded
 bytes_padded bytes h = bytes_mapped (λ o. cond (nat_le 28 (o + length bytes)) (slice_index bytes (o + length bytes - 28)) 0) 0 28
     (λ o. cond_both (nat_le 28 (o + length bytes)) (slice_index bytes (o + length bytes - 28)) 0 (λ (x : ℕ). x < 256) (λ e. h (o + length bytes - 28)) (λ e. omega arith))

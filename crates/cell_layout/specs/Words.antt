@@ -20,5 +20,5 @@ abbrev pub with_byte : ℕ → ℕ → ℕ → ℕ
 with_byte word i b = word / 2 ^ (8 * i + 8) * 2 ^ (8 * i + 8) + b * 2 ^ (8 * i) + word % 2 ^ (8 * i)
 
 -- each number is a byte; past the end there are zeros
-abbrev pub AreBytes : List ℕ → Type 0
-AreBytes xs = (i : ℕ) → slice_index xs i < 256
+abbrev pub ItemsAreBytes : List ℕ → Type 0
+ItemsAreBytes xs = (i : ℕ) → slice_index xs i < 256

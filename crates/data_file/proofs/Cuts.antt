@@ -2,14 +2,14 @@
 use Rattle.std.proofs.Common.{◌≡◌, ◌≢◌, ◌∙◌, ℕ, suc, ◌+◌, ◌<◌, ◌≤◌, ◌^◌, nat_lt, Bool, true, false, ltb-true, ltb-false, List, [], ◌∷◌, ◌++◌, length, Option, None, Some, Result, Ok, Err, arith, refl, ap, sym, append_assoc, length-append}
 use Rattle.std.proofs.lemmas.List.{append-nil}
 use Rattle.key_types.specs.Columns.{Columns}
-use Rattle.length_prefix.specs.Counted.{count_in, counted, IsCutOff}
+use Rattle.length_prefix.specs.Counted.{stated_length, counted, IsCutOff}
 use Rattle.length_prefix.proofs.Counts.{count_goes_on, count_of_counted, counted-same, nothing_more}
 use Rattle.data_file.specs.Listing.{row_bytes, static_bytes}
-use Rattle.data_file.specs.Reading.{IsCutRow, IsCutStatic, NoFixed, NoRow}
-use Rattle.data_file.specs.Parsing.{IsFixedFrame, IsFrame, NoFrame, counts_too_many}
+use Rattle.data_file.specs.Reading.{IsCutRow, IsCutStatic, NoStaticPart, NoRow}
+use Rattle.data_file.specs.Parsing.{IsStaticPartFrame, IsFrame, NoFrame, counts_too_many}
 use Rattle.data_file.proofs.Counted.{behind_first}
 use Rattle.data_file.proofs.Unique.{row_front}
-use Rattle.data_file.proofs.Frames.{no_fixed, no_row}
+use Rattle.data_file.proofs.Frames.{no_static_part, no_row}
 
 -- ---- rows
 
@@ -52,16 +52,16 @@ cut_none columns bytes cut =
 -- ---- the frame of a row, behind its first byte
 
 -- where the clustering's length stands whole it is what the bytes count
-counts : (bytes item rest more : List ℕ) → counted item ++ rest ≡ bytes ++ more → 2 ≤ length bytes → counts_too_many (count_in bytes) ≡ nat_lt 1024 (length item)
+counts : (bytes item rest more : List ℕ) → counted item ++ rest ≡ bytes ++ more → 2 ≤ length bytes → counts_too_many (stated_length bytes) ≡ nat_lt 1024 (length item)
 counts bytes item rest more e two =
-    ap counts_too_many (sym (count_goes_on bytes more two) ∙ ap count_in (sym e) ∙ count_of_counted item rest)
+    ap counts_too_many (sym (count_goes_on bytes more two) ∙ ap stated_length (sym e) ∙ count_of_counted item rest)
 
-two_there : (bytes : List ℕ) → counts_too_many (count_in bytes) ≡ true → 2 ≤ length bytes
+two_there : (bytes : List ℕ) → counts_too_many (stated_length bytes) ≡ true → 2 ≤ length bytes
 two_there [] e = cc
 two_there (high ∷ []) e = cc
 two_there (high ∷ low ∷ bytes) e = omega arith
 
-pub too_many_bad : (bytes : List ℕ) → counts_too_many (count_in bytes) ≡ true → (more : List ℕ) → NoFrame (1 ∷ (bytes ++ more))
+pub too_many_bad : (bytes : List ℕ) → counts_too_many (stated_length bytes) ≡ true → (more : List ℕ) → NoFrame (1 ∷ (bytes ++ more))
 too_many_bad bytes many more =
     (λ c v k frame. by c v k frame.2.0 (sym (behind_first c v frame.2.0) ∙ sym frame.2.1), λ end. cc_end end.0 end.1)
   where
@@ -74,7 +74,7 @@ too_many_bad bytes many more =
     cc_end : (rest : List ℕ) → 1 ∷ (bytes ++ more) ≡ 0 ∷ rest → ⊥
     cc_end rest e = cc
 
-pub too_many_not_cut : (bytes : List ℕ) → counts_too_many (count_in bytes) ≡ true → IsCutRow (1 ∷ bytes) → ⊥
+pub too_many_not_cut : (bytes : List ℕ) → counts_too_many (stated_length bytes) ≡ true → IsCutRow (1 ∷ bytes) → ⊥
 too_many_not_cut bytes many cut =
     let tails : counted cut.clustering ++ counted cut.value ≡ bytes ++ cut.more = tail_of (counted cut.clustering ++ counted cut.value) (bytes ++ cut.more) cut.row in
     let two = two_there bytes many in
@@ -85,7 +85,7 @@ too_many_not_cut bytes many cut =
     tail_of xs ys e = cc
 
 -- the clustering is cut off
-pub cut_clustering : (bytes : List ℕ) → counts_too_many (count_in bytes) ≡ false → IsCutOff bytes → IsCutRow (1 ∷ bytes)
+pub cut_clustering : (bytes : List ℕ) → counts_too_many (stated_length bytes) ≡ false → IsCutOff bytes → IsCutRow (1 ∷ bytes)
 cut_clustering bytes few (item, more, fits, some, e) = record {
   clustering = item;
   value = [];
@@ -103,7 +103,7 @@ cut_clustering bytes few (item, more, fits, some, e) = record {
     ends (x ∷ xs) h e = cc
 
 -- the value is cut off
-pub cut_value : (bytes clustering rest : List ℕ) → counts_too_many (count_in bytes) ≡ false → length clustering < 2 ^ 16 → bytes ≡ counted clustering ++ rest → IsCutOff rest
+pub cut_value : (bytes clustering rest : List ℕ) → counts_too_many (stated_length bytes) ≡ false → length clustering < 2 ^ 16 → bytes ≡ counted clustering ++ rest → IsCutOff rest
     → IsCutRow (1 ∷ bytes)
 cut_value bytes clustering rest few small at (item, more, fits, some, e) = record {
   clustering = clustering;
@@ -142,7 +142,7 @@ cut_static_first bytes rest first at other cut =
     let both : static_bytes (Some cut.value) ≡ first ∷ (rest ++ cut.more) = cut.part ∙ ap (λ t. t ++ cut.more) at in
     other cc
 
-pub cut_static_not_framed : (bytes : List ℕ) (value : Option (List ℕ)) → IsFixedFrame bytes value → IsCutStatic bytes → ⊥
+pub cut_static_not_framed : (bytes : List ℕ) (value : Option (List ℕ)) → IsStaticPartFrame bytes value → IsCutStatic bytes → ⊥
 cut_static_not_framed bytes None (k, (rest, at)) cut = cut_static_first bytes rest 0 at (λ e. cc) cut
 cut_static_not_framed bytes (Some value) (k, (rest, at)) cut =
     let joined : 1 ∷ counted cut.value ≡ 1 ∷ (counted value ++ (rest ++ cut.more)) =
@@ -150,11 +150,11 @@ cut_static_not_framed bytes (Some value) (k, (rest, at)) cut =
     let tails : counted cut.value ≡ counted value ++ (rest ++ cut.more) = cc in
     cut.cut (nothing_more rest cut.more (counted-same cut.value value [] (rest ++ cut.more) (append-nil (counted cut.value) ∙ tails)).1)
 
-pub cut_static_none : (columns : Columns) (bytes : List ℕ) → IsCutStatic bytes → NoFixed columns bytes × (length bytes < 65538)
+pub cut_static_none : (columns : Columns) (bytes : List ℕ) → IsCutStatic bytes → NoStaticPart columns bytes × (length bytes < 65538)
 cut_static_none columns bytes cut =
     let whole : length (static_bytes (Some cut.value)) ≡ length bytes + length cut.more = ap length cut.part ∙ length-append bytes cut.more in
     let value = cut.counts in
-    (no_fixed columns bytes (λ v frame. cut_static_not_framed bytes v frame cut), omega (arith, whole, value, some cut.more cut.cut))
+    (no_static_part columns bytes (λ v frame. cut_static_not_framed bytes v frame cut), omega (arith, whole, value, some cut.more cut.cut))
   where
     some : (xs : List ℕ) → xs ≢ [] → 0 < length xs
     some [] h = absurd (h refl)

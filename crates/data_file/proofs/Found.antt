@@ -7,14 +7,14 @@ use Rattle.outside.specs.Files.{Files, bytes_of}
 use Rattle.bti_nodes.specs.declared.damage.Cause.TheVariants.{BadHead, BadRow}
 use Rattle.key_types.specs.Columns.{Columns}
 use Rattle.data_file.specs.declared.reading.Head.{Head}
-use Rattle.data_file.specs.declared.reading.Fixed.{Fixed}
+use Rattle.data_file.specs.declared.reading.StaticPart.{StaticPart}
 use Rattle.data_file.specs.declared.reading.RowAt.{RowAt}
 use Rattle.data_file.specs.declared.reading.RowAt.TheVariants.{Row, End}
 use Rattle.data_file.specs.declared.reading.DataError.{DataError}
 use Rattle.data_file.specs.declared.reading.DataError.TheVariants.{StoreFault, Damaged, NoMemory}
 use Rattle.length_prefix.specs.Counted.{counted}
 use Rattle.data_file.specs.Listing.{head_bytes, row_bytes, static_bytes}
-use Rattle.data_file.specs.Reading.{IsFixedAt, IsRowAt, NoFixed, NoHead, NoRow}
+use Rattle.data_file.specs.Reading.{IsStaticPartAt, IsRowAt, NoStaticPart, NoHead, NoRow}
 use Rattle.data_file.specs.Held.{IsFront, IsRest}
 use Rattle.data_file.specs.Answers.{IsHead, IsRowOrEnd, IsStaticPart, IsStop, damage_at}
 use Rattle.key_decode.proofs.Known.{string_length}
@@ -56,23 +56,23 @@ stopped_row (Some m) file columns at (Damaged damage) stop = absurd stop
 
 -- ---- static parts
 
-pub fixed_goes_on : (columns : Columns) (bytes rest : List ℕ) (at : ℕ) (fixed : Fixed) → IsFixedAt columns bytes at fixed → IsFixedAt columns (bytes ++ rest) at fixed
-fixed_goes_on columns bytes rest at fixed ((is, (more, e)), place) =
-    ((is, (more ++ rest, longer bytes (static_bytes fixed.value) more rest e)), place)
+pub static_part_goes_on : (columns : Columns) (bytes rest : List ℕ) (at : ℕ) (static_part : StaticPart) → IsStaticPartAt columns bytes at static_part → IsStaticPartAt columns (bytes ++ rest) at static_part
+static_part_goes_on columns bytes rest at static_part ((is, (more, e)), place) =
+    ((is, (more ++ rest, longer bytes (static_bytes static_part.value) more rest e)), place)
 
-pub damaged_fixed : (columns : Columns) (bytes : List ℕ) (at : ℕ) (e : DataError) → e ≡ Damaged (damage_at at BadRow) → NoFixed columns bytes
+pub damaged_static_part : (columns : Columns) (bytes : List ℕ) (at : ℕ) (e : DataError) → e ≡ Damaged (damage_at at BadRow) → NoStaticPart columns bytes
     → IsStaticPart columns bytes at (Err e)
-damaged_fixed columns bytes at e is none = subst (λ (x : DataError). IsStaticPart columns bytes at (Err x)) (sym is) (refl, none)
+damaged_static_part columns bytes at e is none = subst (λ (x : DataError). IsStaticPart columns bytes at (Err x)) (sym is) (refl, none)
 
-pub bad_fixed_alone : (columns : Columns) (bytes : List ℕ) → ((more : List ℕ) → NoFixed columns (bytes ++ more)) → NoFixed columns bytes
-bad_fixed_alone columns bytes none = subst (λ (b : List ℕ). NoFixed columns b) (append-nil bytes) (none [])
+pub bad_static_part_alone : (columns : Columns) (bytes : List ℕ) → ((more : List ℕ) → NoStaticPart columns (bytes ++ more)) → NoStaticPart columns bytes
+bad_static_part_alone columns bytes none = subst (λ (b : List ℕ). NoStaticPart columns b) (append-nil bytes) (none [])
 
-pub stopped_fixed : (files : Option Files) (file : FileId) (columns : Columns) (at : ℕ) (e : DataError) → IsStop e
+pub stopped_static_part : (files : Option Files) (file : FileId) (columns : Columns) (at : ℕ) (e : DataError) → IsStop e
     → IfSome files (λ m. IsStaticPart columns (drop at (bytes_of m file)) at (Err e))
-stopped_fixed None file columns at e stop = tt
-stopped_fixed (Some m) file columns at StoreFault stop = tt
-stopped_fixed (Some m) file columns at NoMemory stop = tt
-stopped_fixed (Some m) file columns at (Damaged damage) stop = absurd stop
+stopped_static_part None file columns at e stop = tt
+stopped_static_part (Some m) file columns at StoreFault stop = tt
+stopped_static_part (Some m) file columns at NoMemory stop = tt
+stopped_static_part (Some m) file columns at (Damaged damage) stop = absurd stop
 
 -- ---- heads
 

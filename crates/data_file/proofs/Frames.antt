@@ -6,9 +6,9 @@ use Rattle.key_types.specs.declared.schema.ValueType.TheVariants.{Text, Blob}
 use Rattle.key_decode.specs.Strings.{IsStringOf}
 use Rattle.length_prefix.specs.Counted.{counted, IsCutOff}
 use Rattle.length_prefix.proofs.Counts.{counted-same, not_cut_off}
-use Rattle.data_file.specs.Listing.{row_bytes, IsFixed, IsRow}
-use Rattle.data_file.specs.Reading.{BeginsEnd, BeginsRow, NoFixed, NoHead, NoRow}
-use Rattle.data_file.specs.Parsing.{IsFixedFrame, IsFrame, NoFixedFrame, NoFrame}
+use Rattle.data_file.specs.Listing.{row_bytes, FitsStaticType, IsRow}
+use Rattle.data_file.specs.Reading.{BeginsEnd, BeginsRow, NoStaticPart, NoHead, NoRow}
+use Rattle.data_file.specs.Parsing.{IsStaticPartFrame, IsFrame, NoStaticPartFrame, NoFrame}
 use Rattle.data_file.proofs.Counted.{behind_first, row-same}
 use Rattle.key_decode.proofs.Known.{string_length}
 
@@ -61,22 +61,22 @@ frame_bad bytes rest more e none = subst NoFrame (sym (ap (λ t. t ++ more) e)) 
 
 -- ---- static parts
 
-fixed_frame : (static : Option ValueType) (value : Option (List ℕ)) → IsFixed static value → IfSome value (λ v. length v < 2 ^ 16)
-fixed_frame static None is = tt
-fixed_frame None (Some v) is = absurd is
-fixed_frame (Some kind) (Some v) is = value_length kind v is
+static_part_frame : (static : Option ValueType) (value : Option (List ℕ)) → FitsStaticType static value → IfSome value (λ v. length v < 2 ^ 16)
+static_part_frame static None is = tt
+static_part_frame None (Some v) is = absurd is
+static_part_frame (Some kind) (Some v) is = value_length kind v is
 
-pub no_fixed : (columns : Columns) (bytes : List ℕ) → NoFixedFrame bytes → NoFixed columns bytes
-no_fixed columns bytes none value (is, at) = none value (fixed_frame columns.static_value value is, at)
+pub no_static_part : (columns : Columns) (bytes : List ℕ) → NoStaticPartFrame bytes → NoStaticPart columns bytes
+no_static_part columns bytes none value (is, at) = none value (static_part_frame columns.static_value value is, at)
 
 -- a value that isn't one of the type
-pub no_fixed_else : (columns : Columns) (bytes v : List ℕ) (kind : ValueType) → columns.static_value ≡ Some kind → IsFixedFrame bytes (Some v) → (IsValueOf kind v → ⊥)
-    → (more : List ℕ) → NoFixed columns (bytes ++ more)
-no_fixed_else columns bytes v kind static (l, (rest, at)) not more None (is, (behind, e)) =
+pub no_static_part_else : (columns : Columns) (bytes v : List ℕ) (kind : ValueType) → columns.static_value ≡ Some kind → IsStaticPartFrame bytes (Some v) → (IsValueOf kind v → ⊥)
+    → (more : List ℕ) → NoStaticPart columns (bytes ++ more)
+no_static_part_else columns bytes v kind static (l, (rest, at)) not more None (is, (behind, e)) =
     let first : 1 ∷ ((counted v ++ rest) ++ more) ≡ 0 ∷ behind = sym (ap (λ t. t ++ more) at) ∙ e in cc
-no_fixed_else columns bytes v kind static (l, (rest, at)) not more (Some u) (is, (behind, e)) =
+no_static_part_else columns bytes v kind static (l, (rest, at)) not more (Some u) (is, (behind, e)) =
     let first : 1 ∷ ((counted v ++ rest) ++ more) ≡ 1 ∷ (counted u ++ behind) = sym (ap (λ t. t ++ more) at) ∙ e in
     let tails : (counted v ++ rest) ++ more ≡ counted u ++ behind = cc in
     let same = (counted-same v u (rest ++ more) behind (sym (append_assoc (counted v) rest more) ∙ tails)).0 in
-    let fits : IsFixed (Some kind) (Some u) = subst (λ (t : Option ValueType). IsFixed t (Some u)) static is in
+    let fits : FitsStaticType (Some kind) (Some u) = subst (λ (t : Option ValueType). FitsStaticType t (Some u)) static is in
     not (subst (IsValueOf kind) (sym same) fits)

@@ -4,7 +4,7 @@ use Rattle.std.proofs.lemmas.List.{take-append-drop, drop-drop, take_all}
 use Rattle.std.proofs.Math.Seq.{drop-append_seam}
 use Rattle.outside.specs.declared.store.FileId.{FileId}
 use Rattle.outside.specs.declared.stream.Failed.{Failed}
-use Rattle.outside.specs.Files.{Files, Reads, bytes_of}
+use Rattle.outside.specs.Files.{Files, ReadsBytes, bytes_of}
 use Rattle.data_file.specs.Held.{IsFront, IsRest}
 
 next : (bytes held rest : List ℕ) (at place : ℕ) → place ≡ at + length held → drop at bytes ≡ held ++ rest → drop place bytes ≡ rest
@@ -13,7 +13,7 @@ next bytes held rest at place p e =
 
 -- a page is put behind the held bytes
 pub read_front : (files : Option Files) (file : FileId) (at place count : ℕ) (held into new : List ℕ) → place ≡ at + length held
-    → IsFront files file at held → Reads {E = Failed} files file place (Ok count) into → new ≡ held ++ take count into → IsFront files file at new
+    → IsFront files file at held → ReadsBytes {E = Failed} files file place (Ok count) into → new ≡ held ++ take count into → IsFront files file at new
 read_front None file at place count held into new p front read is = tt
 read_front (Some m) file at place count held into new p (rest, e) (n, same, short) is =
     let left = next (bytes_of m file) held rest at place p e in
@@ -25,7 +25,7 @@ read_front (Some m) file at place count held into new p (rest, e) (n, same, shor
 
 -- the last page
 pub read_rest : (files : Option Files) (file : FileId) (at place count : ℕ) (held into new : List ℕ) → place ≡ at + length held
-    → IsFront files file at held → Reads {E = Failed} files file place (Ok count) into → new ≡ held ++ take count into → count < length into → IsRest files file at new
+    → IsFront files file at held → ReadsBytes {E = Failed} files file place (Ok count) into → new ≡ held ++ take count into → count < length into → IsRest files file at new
 read_rest None file at place count held into new p front read is less = tt
 read_rest (Some m) file at place count held into new p (rest, e) (n, same, short) is less =
     let left = next (bytes_of m file) held rest at place p e in

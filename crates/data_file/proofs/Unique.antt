@@ -2,7 +2,7 @@
 use Rattle.std.proofs.Common.{◌≡◌, ◌∙◌, ℕ, List, [], ◌∷◌, ◌++◌, Option, None, Some, refl, sym, ap, append_assoc}
 use Rattle.key_types.specs.Columns.{Columns}
 use Rattle.key_types.specs.declared.schema.ValueType.{ValueType}
-use Rattle.data_file.specs.Listing.{ArePartitions, IsFixed, Lists, Partition, Row, data_bytes, end_bytes, fixed_bytes, partition_bytes, row_bytes, rows_bytes}
+use Rattle.data_file.specs.Listing.{ArePartitions, FitsStaticType, Lists, Partition, Row, data_bytes, end_bytes, static_part_bytes, partition_bytes, row_bytes, rows_bytes}
 use Rattle.length_prefix.specs.Counted.{counted}
 use Rattle.length_prefix.proofs.Counts.{counted-same}
 use Rattle.data_file.proofs.Counted.{behind_first}
@@ -33,34 +33,34 @@ rows_front (row ∷ rows) (other ∷ others) t u e =
     (λ i. same i ∷ same_rest i, rest.1)
 
 -- the static part
-pub fixed_front : (static : Option ValueType) (a b : Option (List ℕ)) (r s : List ℕ) → IsFixed static a → IsFixed static b
-    → fixed_bytes static a ++ r ≡ fixed_bytes static b ++ s → (a ≡ b) × (r ≡ s)
-fixed_front None None None r s f g e = (refl, e)
-fixed_front None None (Some y) r s f g e = absurd g
-fixed_front None (Some x) b r s f g e = absurd f
-fixed_front (Some type) None None r s f g e = (refl, cc)
-fixed_front (Some type) None (Some y) r s f g e = cc
-fixed_front (Some type) (Some x) None r s f g e = cc
-fixed_front (Some type) (Some x) (Some y) r s f g e =
+pub static_part_front : (static : Option ValueType) (a b : Option (List ℕ)) (r s : List ℕ) → FitsStaticType static a → FitsStaticType static b
+    → static_part_bytes static a ++ r ≡ static_part_bytes static b ++ s → (a ≡ b) × (r ≡ s)
+static_part_front None None None r s f g e = (refl, e)
+static_part_front None None (Some y) r s f g e = absurd g
+static_part_front None (Some x) b r s f g e = absurd f
+static_part_front (Some type) None None r s f g e = (refl, cc)
+static_part_front (Some type) None (Some y) r s f g e = cc
+static_part_front (Some type) (Some x) None r s f g e = cc
+static_part_front (Some type) (Some x) (Some y) r s f g e =
     let tails : counted x ++ r ≡ counted y ++ s = cc in
     let same = counted-same x y r s tails in
     (ap Some same.0, same.1)
 
 parts : (static : Option ValueType) (p : Partition) (t : List ℕ)
-    → partition_bytes static p ++ t ≡ counted p.key ++ (fixed_bytes static p.fixed ++ (rows_bytes p.rows ++ 0 ∷ t))
+    → partition_bytes static p ++ t ≡ counted p.key ++ (static_part_bytes static p.static_part ++ (rows_bytes p.rows ++ 0 ∷ t))
 parts static p t =
-    append_assoc (counted p.key) (fixed_bytes static p.fixed ++ (rows_bytes p.rows ++ end_bytes)) t
-    ∙ ap (λ x. counted p.key ++ x) (append_assoc (fixed_bytes static p.fixed) (rows_bytes p.rows ++ end_bytes) t
-    ∙ ap (λ x. fixed_bytes static p.fixed ++ x) (append_assoc (rows_bytes p.rows) end_bytes t))
+    append_assoc (counted p.key) (static_part_bytes static p.static_part ++ (rows_bytes p.rows ++ end_bytes)) t
+    ∙ ap (λ x. counted p.key ++ x) (append_assoc (static_part_bytes static p.static_part) (rows_bytes p.rows ++ end_bytes) t
+    ∙ ap (λ x. static_part_bytes static p.static_part ++ x) (append_assoc (rows_bytes p.rows) end_bytes t))
 
-partition_front : (static : Option ValueType) (p q : Partition) (t u : List ℕ) → IsFixed static p.fixed → IsFixed static q.fixed
+partition_front : (static : Option ValueType) (p q : Partition) (t u : List ℕ) → FitsStaticType static p.static_part → FitsStaticType static q.static_part
     → partition_bytes static p ++ t ≡ partition_bytes static q ++ u → (p ≡ q) × (t ≡ u)
 partition_front static p q t u f g e =
-    let heads = counted-same p.key q.key (fixed_bytes static p.fixed ++ (rows_bytes p.rows ++ 0 ∷ t)) (fixed_bytes static q.fixed ++ (rows_bytes q.rows ++ 0 ∷ u))
+    let heads = counted-same p.key q.key (static_part_bytes static p.static_part ++ (rows_bytes p.rows ++ 0 ∷ t)) (static_part_bytes static q.static_part ++ (rows_bytes q.rows ++ 0 ∷ u))
     (sym (parts static p t) ∙ e ∙ parts static q u) in
-    let fixed = fixed_front static p.fixed q.fixed (rows_bytes p.rows ++ 0 ∷ t) (rows_bytes q.rows ++ 0 ∷ u) f g heads.1 in
-    let rows = rows_front p.rows q.rows t u fixed.1 in
-    let same : p ≡ q = λ i. record { key = heads.0 i; fixed = fixed.0 i; rows = rows.0 i } in
+    let static_part = static_part_front static p.static_part q.static_part (rows_bytes p.rows ++ 0 ∷ t) (rows_bytes q.rows ++ 0 ∷ u) f g heads.1 in
+    let rows = rows_front p.rows q.rows t u static_part.1 in
+    let same : p ≡ q = λ i. record { key = heads.0 i; static_part = static_part.0 i; rows = rows.0 i } in
     (same, rows.1)
 
 data_front : (columns : Columns) (ps qs : List Partition) → ArePartitions columns ps → ArePartitions columns qs

@@ -6,11 +6,11 @@ use Rattle.bti_nodes.specs.declared.damage.Cause.TheVariants.{BadHead, BadRow}
 use Rattle.bti_nodes.specs.declared.damage.Damage.{Damage}
 use Rattle.key_types.specs.Columns.{Columns}
 use Rattle.data_file.specs.declared.reading.Head.{Head}
-use Rattle.data_file.specs.declared.reading.Fixed.{Fixed}
+use Rattle.data_file.specs.declared.reading.StaticPart.{StaticPart}
 use Rattle.data_file.specs.declared.reading.RowAt.{RowAt}
 use Rattle.data_file.specs.declared.reading.DataError.{DataError}
 use Rattle.data_file.specs.declared.reading.DataError.TheVariants.{StoreFault, Damaged, NoMemory}
-use Rattle.data_file.specs.Reading.{IsFixedAt, IsHeadAt, IsRowAt, NoFixed, NoHead, NoRow}
+use Rattle.data_file.specs.Reading.{IsStaticPartAt, IsHeadAt, IsRowAt, NoStaticPart, NoHead, NoRow}
 
 -- damage of the data file at a place
 abbrev pub damage_at : ℕ → Cause → Damage
@@ -31,9 +31,9 @@ IsRowOrEnd columns bytes at (Err StoreFault) = Unit {0}
 IsRowOrEnd columns bytes at (Err NoMemory) = Unit {0}
 
 -- the same of a static part
-abbrev pub IsStaticPart : Columns → List ℕ → ℕ → Result Fixed DataError → Type 0
-IsStaticPart columns bytes at (Ok fixed) = IsFixedAt columns bytes at fixed
-IsStaticPart columns bytes at (Err (Damaged damage)) = (damage ≡ damage_at at BadRow) × NoFixed columns bytes
+abbrev pub IsStaticPart : Columns → List ℕ → ℕ → Result StaticPart DataError → Type 0
+IsStaticPart columns bytes at (Ok static_part) = IsStaticPartAt columns bytes at static_part
+IsStaticPart columns bytes at (Err (Damaged damage)) = (damage ≡ damage_at at BadRow) × NoStaticPart columns bytes
 IsStaticPart columns bytes at (Err StoreFault) = Unit {0}
 IsStaticPart columns bytes at (Err NoMemory) = Unit {0}
 

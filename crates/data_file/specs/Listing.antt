@@ -13,7 +13,7 @@ pub record Row : Type 0 where
 -- a partition: the string of its components, its static value where it has one, and its rows
 pub record Partition : Type 0 where
   pub key : List ℕ
-  pub fixed : Option (List ℕ)
+  pub static_part : Option (List ℕ)
   pub rows : List Row
 
 -- ---- how they are spelled
@@ -36,9 +36,9 @@ static_bytes None = 0 ∷ []
 static_bytes (Some value) = 1 ∷ counted value
 
 -- a table with a static type has a static part behind each head
-abbrev pub fixed_bytes : Option ValueType → Option (List ℕ) → List ℕ
-fixed_bytes None fixed = []
-fixed_bytes (Some type) fixed = static_bytes fixed
+abbrev pub static_part_bytes : Option ValueType → Option (List ℕ) → List ℕ
+static_part_bytes None static_part = []
+static_part_bytes (Some type) static_part = static_bytes static_part
 
 -- rows, one behind the other
 abbrev pub rows_bytes : List Row → List ℕ
@@ -48,7 +48,7 @@ rows_bytes (row ∷ rows) = row_bytes row.clustering row.value ++ rows_bytes row
 -- a partition: its head, its static part, its rows and its end
 abbrev pub partition_bytes : Option ValueType → Partition → List ℕ
 partition_bytes static partition =
-    head_bytes partition.key ++ (fixed_bytes static partition.fixed ++ (rows_bytes partition.rows ++ end_bytes))
+    head_bytes partition.key ++ (static_part_bytes static partition.static_part ++ (rows_bytes partition.rows ++ end_bytes))
 
 -- a data file: its partitions, one behind the other
 abbrev pub data_bytes : Option ValueType → List Partition → List ℕ
@@ -58,10 +58,10 @@ data_bytes static (partition ∷ partitions) = partition_bytes static partition 
 -- ---- what may be listed
 
 -- the static value is of the static type, and there is none where the table has no such type
-abbrev pub IsFixed : Option ValueType → Option (List ℕ) → Type 0
-IsFixed static None = Unit {0}
-IsFixed None (Some value) = ⊥
-IsFixed (Some type) (Some value) = IsValueOf type value
+abbrev pub FitsStaticType : Option ValueType → Option (List ℕ) → Type 0
+FitsStaticType static None = Unit {0}
+FitsStaticType None (Some value) = ⊥
+FitsStaticType (Some type) (Some value) = IsValueOf type value
 
 -- the row is one of the table
 abbrev pub IsRow : Columns → List ℕ → List ℕ → Type 0
@@ -74,7 +74,7 @@ AreRows columns (row ∷ rows) = IsRow columns row.clustering row.value × AreRo
 abbrev pub ArePartitions : Columns → List Partition → Type 0
 ArePartitions columns [] = Unit {0}
 ArePartitions columns (partition ∷ partitions) =
-    IsStringOf columns.partition partition.key × IsFixed columns.static_value partition.fixed × AreRows columns partition.rows
+    IsStringOf columns.partition partition.key × FitsStaticType columns.static_value partition.static_part × AreRows columns partition.rows
     × ArePartitions columns partitions
 
 -- ---- the listing

@@ -19,9 +19,9 @@ abbrev pub NoFrame : List ℕ → Type 0
 NoFrame bytes = ((clustering value : List ℕ) → length clustering ≤ longest_string → IsFrame bytes clustering value → ⊥) × (BeginsEnd bytes → ⊥)
 
 -- the bytes begin with a static part of this value, as far as its length says
-abbrev pub IsFixedFrame : List ℕ → Option (List ℕ) → Type 0
-IsFixedFrame bytes value = IfSome value (λ v. length v < 2 ^ 16) × ((rest : List ℕ) × (bytes ≡ static_bytes value ++ rest))
+abbrev pub IsStaticPartFrame : List ℕ → Option (List ℕ) → Type 0
+IsStaticPartFrame bytes value = IfSome value (λ v. length v < 2 ^ 16) × ((rest : List ℕ) × (bytes ≡ static_bytes value ++ rest))
 
 -- no static part begins here
-abbrev pub NoFixedFrame : List ℕ → Type 0
-NoFixedFrame bytes = (value : Option (List ℕ)) → IsFixedFrame bytes value → ⊥
+abbrev pub NoStaticPartFrame : List ℕ → Type 0
+NoStaticPartFrame bytes = (value : Option (List ℕ)) → IsStaticPartFrame bytes value → ⊥

@@ -3,9 +3,9 @@ use Rattle.std.specs.Prelude.{◌≡◌, ◌≢◌, ℕ, ◌+◌, ◌<◌, ◌�
 use Rattle.key_types.specs.Columns.{Columns}
 use Rattle.byte_comparable.specs.Strings.{longest_string}
 use Rattle.key_decode.specs.Strings.{IsStringOf}
-use Rattle.data_file.specs.Listing.{head_bytes, row_bytes, static_bytes, IsFixed, IsRow}
+use Rattle.data_file.specs.Listing.{head_bytes, row_bytes, static_bytes, FitsStaticType, IsRow}
 use Rattle.data_file.specs.declared.reading.Head.{Head}
-use Rattle.data_file.specs.declared.reading.Fixed.{Fixed}
+use Rattle.data_file.specs.declared.reading.StaticPart.{StaticPart}
 use Rattle.data_file.specs.declared.reading.RowAt.{RowAt}
 use Rattle.data_file.specs.declared.reading.RowAt.TheVariants.{Row, End}
 
@@ -22,8 +22,8 @@ abbrev pub BeginsEnd : List ℕ → Type 0
 BeginsEnd bytes = (rest : List ℕ) × (bytes ≡ 0 ∷ rest)
 
 -- the bytes begin with the static part of a partition in a table with a static type, which has this value or none
-abbrev pub BeginsFixed : Columns → List ℕ → Option (List ℕ) → Type 0
-BeginsFixed columns bytes value = IsFixed columns.static_value value × ((rest : List ℕ) × (bytes ≡ static_bytes value ++ rest))
+abbrev pub BeginsStaticPart : Columns → List ℕ → Option (List ℕ) → Type 0
+BeginsStaticPart columns bytes value = FitsStaticType columns.static_value value × ((rest : List ℕ) × (bytes ≡ static_bytes value ++ rest))
 
 -- no head begins here
 abbrev pub NoHead : Columns → List ℕ → Type 0
@@ -34,8 +34,8 @@ abbrev pub NoRow : Columns → List ℕ → Type 0
 NoRow columns bytes = ((clustering value : List ℕ) → BeginsRow columns bytes clustering value → ⊥) × (BeginsEnd bytes → ⊥)
 
 -- no static part begins here
-abbrev pub NoFixed : Columns → List ℕ → Type 0
-NoFixed columns bytes = (value : Option (List ℕ)) → BeginsFixed columns bytes value → ⊥
+abbrev pub NoStaticPart : Columns → List ℕ → Type 0
+NoStaticPart columns bytes = (value : Option (List ℕ)) → BeginsStaticPart columns bytes value → ⊥
 
 -- ---- bytes that are cut off
 
@@ -69,5 +69,5 @@ IsRowAt columns bytes at (Row row) = BeginsRow columns bytes row.clustering row.
 IsRowAt columns bytes at (End behind) = BeginsEnd bytes × (behind ≡ at + 1)
 
 -- the static part that begins there, and the place behind it
-abbrev pub IsFixedAt : Columns → List ℕ → ℕ → Fixed → Type 0
-IsFixedAt columns bytes at fixed = BeginsFixed columns bytes fixed.value × (fixed.end ≡ at + length (static_bytes fixed.value))
+abbrev pub IsStaticPartAt : Columns → List ℕ → ℕ → StaticPart → Type 0
+IsStaticPartAt columns bytes at static_part = BeginsStaticPart columns bytes static_part.value × (static_part.end ≡ at + length (static_bytes static_part.value))

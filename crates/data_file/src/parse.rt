@@ -2,7 +2,7 @@
 //! one, call these; they take no memory but for a row that is handed out, and say the same whatever follows the bytes.
 ghost use Rattle.std.specs.Prelude.{◌≡◌, ◌↔◌, ◌<◌, ◌≤◌, ◌+◌, ◌++◌, ◌^◌, List, ℕ, length, IfOk, IfSome, IsNone, MatchOption, Err, ◌∷◌};
 ghost use Rattle.key_types.specs.Columns.{columns_of};
-ghost use Rattle.length_prefix.specs.Counted.{count_in};
+ghost use Rattle.length_prefix.specs.Counted.{stated_length};
 ghost use Rattle.data_file.specs.Reading.{BeginsEnd, BeginsHead, BeginsRow, IsCutRow, IsRowAt, NoHead, NoRow};
 ghost use Rattle.data_file.specs.Parsing.{IsFrame, NoFrame, counts_too_many};
 
@@ -11,7 +11,7 @@ use crate::strings::is_row;
 use byte_comparable::LONGEST_STRING;
 use key_decode::is_partition_string;
 use key_types::{ByteList, NoMemory, Schema};
-use length_prefix::{count_in, counted};
+use length_prefix::{counted, stated_length};
 use std::alloc::Global;
 
 /// Why bytes of a data file were not read as a row or an end.
@@ -53,9 +53,9 @@ pub fn head_in<'b>(schema: &Schema, bytes: &'b [u8]) -> Option<&'b [u8]>
 
 /// Whether the bytes begin with a count of more than 1,024 bytes.
 fn counts_too_many(bytes: &[u8]) -> bool
-    ensures { result ≡ counts_too_many (count_in bytes.now) }
+    ensures { result ≡ counts_too_many (stated_length bytes.now) }
 {
-    match count_in(bytes) {
+    match stated_length(bytes) {
         Some(count) => count > LONGEST_STRING,
         None => false,
     }

@@ -6,8 +6,8 @@ ghost use Rattle.key_types.specs.Columns.{columns_of};
 ghost use Rattle.data_file.specs.Answers.{damage_at, IsHead, IsRowOrEnd, IsStaticPart, IsStop};
 ghost use Rattle.data_file.specs.Held.{IsFront, IsRest};
 
-use crate::fixed::parse_fixed;
 use crate::parse::{ParseRow, head_in, parse_row};
+use crate::static_part::parse_static_part;
 use bti_nodes::{Cause, Damage};
 use key_types::{ByteList, KeyBytes, NoMemory, Schema, ValueBytes};
 use outside::{Failed, FileId, PAGE, Part, Store};
@@ -30,7 +30,7 @@ pub struct DataRow {
 
 /// A static part: its value, where it has one, and the place behind it.
 #[derive(Debug, Drop)]
-pub struct Fixed {
+pub struct StaticPart {
     pub value: Option<ValueBytes>,
     pub end: u64,
 }
@@ -206,20 +206,20 @@ pub fn read_row<K: Store>(
 
 /// What the bytes tell of the static part with which they and whatever follows them begin; `None` where they are too
 /// few.
-fn early_fixed(
+fn early_static_part(
     alloc: Global,
     schema: &Schema,
     bytes: &[u8],
     at: u64,
-) -> Option<Result<Fixed, DataError>>
-    requires fixed { IsSome schema.now.static_value }
+) -> Option<Result<StaticPart, DataError>>
+    requires static_part { IsSome schema.now.static_value }
     requires place { at < 2 ^ 62 }
     ensures told { IfSome result (λ found. (rest : List ℕ) → IsStaticPart (columns_of schema.now) (bytes.now ++ rest) at found) }
     ensures fault { IfSome result (λ found. ¬ (found ≡ Err DataError.StoreFault)) }
     ensures few { IsNone result → length bytes.now < 65538 }
 {
-    match parse_fixed(alloc, schema, bytes, at) {
-        Ok(fixed) => Some(Ok(fixed)),
+    match parse_static_part(alloc, schema, bytes, at) {
+        Ok(static_part) => Some(Ok(static_part)),
         Err(ParseRow::Short) => None,
         Err(ParseRow::Bad) => Some(Err(damaged(at, Cause::BadRow))),
         Err(ParseRow::NoMemory) => Some(Err(DataError::NoMemory)),
@@ -227,14 +227,19 @@ fn early_fixed(
 }
 
 /// What the bytes tell of it, where nothing follows them.
-fn late_fixed(alloc: Global, schema: &Schema, bytes: &[u8], at: u64) -> Result<Fixed, DataError>
-    requires fixed { IsSome schema.now.static_value }
+fn late_static_part(
+    alloc: Global,
+    schema: &Schema,
+    bytes: &[u8],
+    at: u64,
+) -> Result<StaticPart, DataError>
+    requires static_part { IsSome schema.now.static_value }
     requires place { at < 2 ^ 62 }
     ensures told { IsStaticPart (columns_of schema.now) bytes.now at result }
     ensures fault { ¬ (result ≡ Err DataError.StoreFault) }
 {
-    match parse_fixed(alloc, schema, bytes, at) {
-        Ok(fixed) => Ok(fixed),
+    match parse_static_part(alloc, schema, bytes, at) {
+        Ok(static_part) => Ok(static_part),
         Err(ParseRow::Short) => Err(damaged(at, Cause::BadRow)),
         Err(ParseRow::Bad) => Err(damaged(at, Cause::BadRow)),
         Err(ParseRow::NoMemory) => Err(DataError::NoMemory),
@@ -243,14 +248,14 @@ fn late_fixed(alloc: Global, schema: &Schema, bytes: &[u8], at: u64) -> Result<F
 
 /// The static part at a position of the file, in a table with a static type. Damage is told exactly where none begins
 /// there.
-pub fn read_fixed<K: Store>(
+pub fn read_static_part<K: Store>(
     alloc: Global,
     schema: &Schema,
     file: FileId,
     at: u64,
     store: &mut K,
-) -> Result<Fixed, DataError>
-    requires fixed { IsSome schema.now.static_value }
+) -> Result<StaticPart, DataError>
+    requires static_part { IsSome schema.now.static_value }
     requires place { at < 2 ^ 62 }
     ensures part { IfSome (K.files store.old) (λ m. IsStaticPart (columns_of schema.now) (drop at (bytes_of m file)) at result) }
     ensures files { K.files store.new ≡ K.files store.old }
@@ -261,10 +266,10 @@ pub fn read_fixed<K: Store>(
     let mut held = ByteList::new(alloc);
     let mut ended = false;
     'pages: while !ended {
-        if let Some(found) = early_fixed(alloc, schema, held.as_slice(), at) {
+        if let Some(found) = early_static_part(alloc, schema, held.as_slice(), at) {
             return found;
         }
         ended = read_more(file, at, &mut held, store)?;
     }
-    late_fixed(alloc, schema, held.as_slice(), at)
+    late_static_part(alloc, schema, held.as_slice(), at)
 }

@@ -135,7 +135,7 @@ fn static_schema(alloc: Global) -> Result<Schema, AllocError>
 fn write_static<K: Store>(alloc: Global, store: &mut K) -> Result<u64, PackError> {
     let mut writer = DataWriter::new(alloc, DATA);
     writer.open_partition(&STATIC[2..8], store)?;
-    let behind = writer.fixed(Some(b"s"), store)?;
+    let behind = writer.static_part(Some(b"s"), store)?;
     writer.row(&STATIC[15..21], b"a", store)?;
     writer.close_partition(store)?;
     writer.finish(store)?;
@@ -151,9 +151,13 @@ fn a_static_part_is_written(rt: HostRuntime) {
 }
 
 /// The position behind a static part, the length of its value, and the position of damage.
-fn found_fixed(found: Result<Fixed, DataError>) -> (u64, usize, u64) {
+fn found_static_part(found: Result<StaticPart, DataError>) -> (u64, usize, u64) {
     match found {
-        Ok(fixed) => (fixed.end, fixed.value.map_or(0, |value| value.len()), 0),
+        Ok(static_part) => (
+            static_part.end,
+            static_part.value.map_or(0, |value| value.len()),
+            0,
+        ),
         Err(DataError::Damaged(damage)) => (0, 0, damage.position),
         Err(_) => (0, 0, 0),
     }
@@ -171,12 +175,18 @@ fn static_parts_are_read(rt: HostRuntime) -> Result<(), TestFail> {
         (25, (0, 0, 25)),
         (2, (0, 0, 2)),
     ] {
-        let fixed = read_fixed(alloc, &schema, DATA, at, &mut store);
-        assert_eq!(rt; found_fixed(fixed), want, "at {at}");
+        let static_part = read_static_part(alloc, &schema, DATA, at, &mut store);
+        assert_eq!(rt; found_static_part(static_part), want, "at {at}");
     }
-    assert_eq!(rt; fixed_in(&schema, &[1, 0, 2, 0x73]), Err(ParseRow::Short));
-    assert_eq!(rt; fixed_in(&schema, &[1, 0, 1, 0xFF]), Err(ParseRow::Bad));
-    assert_eq!(rt; fixed_in(&schema, &[0]), Ok(None));
+    assert_eq!(rt;
+        static_part_in(&schema, &[1, 0, 2, 0x73]),
+        Err(ParseRow::Short)
+    );
+    assert_eq!(rt;
+        static_part_in(&schema, &[1, 0, 1, 0xFF]),
+        Err(ParseRow::Bad)
+    );
+    assert_eq!(rt; static_part_in(&schema, &[0]), Ok(None));
     Ok(())
 }
 

@@ -4,7 +4,7 @@ ghost use Rattle.std.specs.Prelude.{◌≡◌, ◌<◌, ◌≤◌, ◌+◌, ◌+
 ghost use Rattle.outside.specs.Causes.{Rose};
 ghost use Rattle.byte_comparable.specs.Strings.{longest_string};
 ghost use Rattle.data_file.specs.Listing.{end_bytes, head_bytes, row_bytes, static_bytes};
-ghost use Rattle.data_file.specs.Writing.{Finishes, Puts};
+ghost use Rattle.data_file.specs.Writing.{AppendsWhole, PutsButHeld};
 
 use bti_nodes::PackError;
 use key_types::{ByteList, NoMemory};
@@ -68,7 +68,7 @@ impl DataWriter {
         ensures at { IfOk result (λ at. at ≡ self.old.position) }
         ensures position { OnOk result (self.new.position ≡ self.old.position + length (head_bytes key.now)) }
         ensures file { self.new.file ≡ self.old.file }
-        ensures written { Puts (K.files store.old) (K.files store.new) self.old.file result (self.old.pending ++ head_bytes key.now) self.new.pending }
+        ensures written { PutsButHeld (K.files store.old) (K.files store.new) self.old.file result (self.old.pending ++ head_bytes key.now) self.new.pending }
         ensures reads { K.reads store.new ≡ K.reads store.old }
         ensures later { K.faults store.old ≤ K.faults store.new }
         ensures fault { result ≡ Err PackError.StoreFault → Rose (K.faults store.old) (K.faults store.new) }
@@ -82,19 +82,23 @@ impl DataWriter {
 
     /// Writes the static part of the partition that was just begun, in a table with a static type, and answers the
     /// position behind it.
-    pub fn fixed<K: Store>(&mut self, value: Option<&[u8]>, store: &mut K) -> Result<u64, PackError>
+    pub fn static_part<K: Store>(
+        &mut self,
+        value: Option<&[u8]>,
+        store: &mut K,
+    ) -> Result<u64, PackError>
         requires value { IfSome value (λ v. length v.now < 2 ^ 16) }
         requires place { self.old.position < 2 ^ 60 }
         ensures behind { IfOk result (λ behind. behind ≡ self.old.position + length (static_bytes (option_copied value.entry))) }
         ensures position { OnOk result (self.new.position ≡ self.old.position + length (static_bytes (option_copied value.entry))) }
         ensures file { self.new.file ≡ self.old.file }
-        ensures written { Puts (K.files store.old) (K.files store.new) self.old.file result (self.old.pending ++ static_bytes (option_copied value.entry)) self.new.pending }
+        ensures written { PutsButHeld (K.files store.old) (K.files store.new) self.old.file result (self.old.pending ++ static_bytes (option_copied value.entry)) self.new.pending }
         ensures reads { K.reads store.new ≡ K.reads store.old }
         ensures later { K.faults store.old ≤ K.faults store.new }
         ensures fault { result ≡ Err PackError.StoreFault → Rose (K.faults store.old) (K.faults store.new) }
     {
-        let behind = self.position + fixed_length(value);
-        put_fixed(&mut self.pending, value)?;
+        let behind = self.position + static_part_length(value);
+        put_static_part(&mut self.pending, value)?;
         self.position = behind;
         put_out(self.file, &mut self.pending, BLOCK, store)?;
         Ok(behind)
@@ -113,7 +117,7 @@ impl DataWriter {
         ensures behind { IfOk result (λ behind. behind ≡ self.old.position + length (row_bytes clustering.now value.now)) }
         ensures position { OnOk result (self.new.position ≡ self.old.position + length (row_bytes clustering.now value.now)) }
         ensures file { self.new.file ≡ self.old.file }
-        ensures written { Puts (K.files store.old) (K.files store.new) self.old.file result (self.old.pending ++ row_bytes clustering.now value.now) self.new.pending }
+        ensures written { PutsButHeld (K.files store.old) (K.files store.new) self.old.file result (self.old.pending ++ row_bytes clustering.now value.now) self.new.pending }
         ensures reads { K.reads store.new ≡ K.reads store.old }
         ensures later { K.faults store.old ≤ K.faults store.new }
         ensures fault { result ≡ Err PackError.StoreFault → Rose (K.faults store.old) (K.faults store.new) }
@@ -130,7 +134,7 @@ impl DataWriter {
         requires { self.old.position < 2 ^ 60 }
         ensures position { OnOk result (self.new.position ≡ self.old.position + length end_bytes) }
         ensures file { self.new.file ≡ self.old.file }
-        ensures written { Puts (K.files store.old) (K.files store.new) self.old.file result (self.old.pending ++ end_bytes) self.new.pending }
+        ensures written { PutsButHeld (K.files store.old) (K.files store.new) self.old.file result (self.old.pending ++ end_bytes) self.new.pending }
         ensures reads { K.reads store.new ≡ K.reads store.old }
         ensures later { K.faults store.old ≤ K.faults store.new }
         ensures fault { result ≡ Err PackError.StoreFault → Rose (K.faults store.old) (K.faults store.new) }
@@ -142,7 +146,7 @@ impl DataWriter {
 
     /// Appends what is held back. It makes the file also where nothing was written.
     pub fn finish<K: Store>(self, store: &mut K) -> Result<(), PackError>
-        ensures written { Finishes (K.files store.old) (K.files store.new) self.file result self.pending }
+        ensures written { AppendsWhole (K.files store.old) (K.files store.new) self.file result self.pending }
         ensures reads { K.reads store.new ≡ K.reads store.old }
         ensures later { K.faults store.old ≤ K.faults store.new }
         ensures fault { result ≡ Err PackError.StoreFault → Rose (K.faults store.old) (K.faults store.new) }
@@ -162,7 +166,7 @@ fn put_row(out: &mut ByteList, clustering: &[u8], value: &[u8]) -> Result<(), No
     put_counted(out, value)
 }
 
-fn put_fixed(out: &mut ByteList, value: Option<&[u8]>) -> Result<(), NoMemory>
+fn put_static_part(out: &mut ByteList, value: Option<&[u8]>) -> Result<(), NoMemory>
     requires { IfSome value (λ v. length v.now < 2 ^ 16) }
     ensures { OnOk result (out.new ≡ out.old ++ static_bytes (option_copied value.entry)) }
 {
@@ -176,7 +180,7 @@ fn put_fixed(out: &mut ByteList, value: Option<&[u8]>) -> Result<(), NoMemory>
 }
 
 /// How many bytes a static part has.
-fn fixed_length(value: Option<&[u8]>) -> u64
+fn static_part_length(value: Option<&[u8]>) -> u64
     requires { IfSome value (λ v. length v.now < 2 ^ 16) }
     ensures length { result ≡ length (static_bytes (option_copied value.entry)) }
     ensures most { result ≤ 65538 }
@@ -194,7 +198,7 @@ fn put_out<K: Store>(
     least: usize,
     store: &mut K,
 ) -> Result<(), PackError>
-    ensures written { Puts (K.files store.old) (K.files store.new) file result pending.old pending.new }
+    ensures written { PutsButHeld (K.files store.old) (K.files store.new) file result pending.old pending.new }
     ensures reads { K.reads store.new ≡ K.reads store.old }
     ensures later { K.faults store.old ≤ K.faults store.new }
     ensures fault { result ≡ Err PackError.StoreFault → Rose (K.faults store.old) (K.faults store.new) }

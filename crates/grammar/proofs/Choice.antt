@@ -2,7 +2,7 @@
 use Rattle.std.proofs.Common.{◌≡◌, ℕ, ◌+◌, ◌≤◌, Bool, true, false, List, [], ◌∷◌, ◌++◌, length, Result, Ok, Err, refl, sym, ◌∙◌, ap, arith, append_assoc, length-append, inl, inr}
 use Rattle.std.specs.Prelude.{min, nat_le}
 use Rattle.std.proofs.lemmas.Bool.Decides.{nat_tests}
-use Rattle.grammar.specs.Exact.{Read, Exact, StopsAt, Begins}
+use Rattle.grammar.specs.Exact.{Read, Exact, StopsAt, NextIs}
 use Rattle.grammar.specs.Reading.{or_else, further_stop, either, Either}
 
 min_first : (m n : ℕ) → m ≤ n → min m n ≡ m
@@ -25,13 +25,13 @@ split_front (x ∷ xs) (y ∷ ys) ps qs e h =
 
 module _ {A : Type 0} (r s : Read A) (First Second : A → List ℕ → Type 0) (follow : A → ℕ → Type 0)
     (one : Exact r First follow) (two : Exact s Second follow)
-    (others : (a : A) (text rest : List ℕ) → Second a text → Begins (follow a) rest → (n : ℕ) × (r (text ++ rest) ≡ Err n)) where
+    (others : (a : A) (text rest : List ℕ) → Second a text → NextIs (follow a) rest → (n : ℕ) × (r (text ++ rest) ≡ Err n)) where
   found_by : (x y : Result (A × List ℕ) ℕ) (text : List ℕ) (a : A) (rest : List ℕ) → r text ≡ x → s text ≡ y → or_else x y ≡ Ok (a, rest) → (front : List ℕ) × (text ≡ front ++ rest) × Either First Second a front
   found_by (Ok x) y text a rest e g h = let p = one.found text a rest (e ∙ h) in (p.0, p.1, inl p.2)
   found_by (Err n) (Ok y) text a rest e g h = let p = two.found text a rest (g ∙ h) in (p.0, p.1, inr p.2)
   found_by (Err n) (Err m) text a rest e g h = cc
 
-  all : (a : A) (front rest : List ℕ) → Either First Second a front → Begins (follow a) rest → either r s (front ++ rest) ≡ Ok (a, rest)
+  all : (a : A) (front rest : List ℕ) → Either First Second a front → NextIs (follow a) rest → either r s (front ++ rest) ≡ Ok (a, rest)
   all a front rest (inl i) h = ap (λ x. or_else x (s (front ++ rest))) (one.all a front rest i h)
   all a front rest (inr i) h =
       let o = others a front rest i h in

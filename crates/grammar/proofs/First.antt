@@ -1,6 +1,6 @@
 -- Two exact readings, of which the first byte chooses one, are an exact reading.
 use Rattle.std.proofs.Common.{◌≡◌, ℕ, Bool, true, false, cond, List, [], ◌∷◌, ◌++◌, length, Ok, Err, refl, sym, ◌∙◌, ap, subst, inl, inr}
-use Rattle.grammar.specs.Exact.{Read, Exact, StopsAt, Viable, Begins}
+use Rattle.grammar.specs.Exact.{Read, Exact, StopsAt, Viable, NextIs}
 use Rattle.grammar.specs.Reading.{by_first, Either}
 use Rattle.grammar.proofs.Front.{stops_empty}
 
@@ -23,7 +23,7 @@ module _ {A : Type 0} (test : ℕ → Bool) (r s : Read A) (First Second : A →
   at_second : (c : ℕ) (cs : List ℕ) → test c ≡ false → by_first test r s (c ∷ cs) ≡ s (c ∷ cs)
   at_second c cs e = ap (λ t. cond t (r (c ∷ cs)) (s (c ∷ cs))) e
 
-  all : (a : A) (front rest : List ℕ) → Either First Second a front → Begins (follow a) rest → by_first test r s (front ++ rest) ≡ Ok (a, rest)
+  all : (a : A) (front rest : List ℕ) → Either First Second a front → NextIs (follow a) rest → by_first test r s (front ++ rest) ≡ Ok (a, rest)
   all a front rest (inl i) h =
       let p = heads a front i in
       ap (λ l. by_first test r s (l ++ rest)) p.2 ∙ at_first p.0 (p.1 ++ rest) p.3 ∙ ap (λ l. r (l ++ rest)) (sym p.2) ∙ one.all a front rest i h

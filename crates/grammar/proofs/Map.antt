@@ -1,7 +1,7 @@
 -- What was read seen as another value, what may be left out, and the end of a text.
 use Rattle.std.proofs.Common.{◌≡◌, ℕ, ◌+◌, ◌-◌, List, [], ◌∷◌, ◌++◌, length, Result, Ok, Err, refl, sym, ◌∙◌, ap, arith, subst, append_assoc, length-append}
 use Rattle.std.proofs.lemmas.List.{append-nil}
-use Rattle.grammar.specs.Exact.{Read, Exact, StopsAt, Begins, Longest}
+use Rattle.grammar.specs.Exact.{Read, Exact, StopsAt, NextIs, Longest}
 use Rattle.grammar.specs.Reading.{mapped, map_read, Mapped, whole, all_of}
 
 module _ {A B : Type 0} (f : A → B) (r : Read A) (Is : A → List ℕ → Type 0) (follow : A → ℕ → Type 0) (after : B → ℕ → Type 0)
@@ -12,7 +12,7 @@ module _ {A B : Type 0} (f : A → B) (r : Read A) (Is : A → List ℕ → Type
       (x.0, e ∙ ap (λ q. Ok (x.0, q)) (ap (λ q. q.1) pairs), sym (ap (λ q. q.0) pairs))
   found_by (Err n) text b rest e h = cc
 
-  back : (rest : List ℕ) (a : A) → Begins (after (f a)) rest → Begins (follow a) rest
+  back : (rest : List ℕ) (a : A) → NextIs (after (f a)) rest → NextIs (follow a) rest
   back [] a h = tt
   back (c ∷ cs) a h = from a c h
 
@@ -33,7 +33,7 @@ module _ {A B : Type 0} (f : A → B) (r : Read A) (Is : A → List ℕ → Type
   pub map_exact : Exact (map_read f r) (Mapped f Is) after
   map_exact = record {
     found = λ text b rest h. let p = found_by (r text) text b rest refl h in let q = one.found text p.0 rest p.1 in (q.0, q.1, (p.0, q.2, p.2));
-    all = λ b front rest is h. ap (mapped f) (one.all is.0 front rest is.1 (back rest is.0 (subst (λ (x : B). Begins (after x) rest) is.2 h))) ∙ ap (λ x. Ok (x, rest)) (sym is.2);
+    all = λ b front rest is h. ap (mapped f) (one.all is.0 front rest is.1 (back rest is.0 (subst (λ (x : B). NextIs (after x) rest) is.2 h))) ∙ ap (λ x. Ok (x, rest)) (sym is.2);
     next = λ text b c cs h. let p = found_by (r text) text b (c ∷ cs) refl h in subst (λ (x : B). after x c) (sym p.2) (to p.0 c (one.next text p.0 c cs p.1));
     stops = λ text left h. stops_as text left (one.stops text left (err_by (r text) left h));
   }

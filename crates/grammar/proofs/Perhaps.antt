@@ -1,7 +1,7 @@
 -- What may be left out, where its first byte tells.
 use Rattle.std.proofs.Common.{◌≡◌, ℕ, ◌==◌, Bool, true, false, cond, List, [], ◌∷◌, ◌++◌, length, Ok, Err, refl, sym, ◌∙◌, ap, arith, subst, inl, inr}
 use Rattle.std.proofs.lemmas.Bool.Decides.{nat_tests}
-use Rattle.grammar.specs.Exact.{Read, Exact, StopsAt, Begins}
+use Rattle.grammar.specs.Exact.{Read, Exact, StopsAt, NextIs}
 use Rattle.grammar.specs.Reading.{perhaps, Perhaps}
 
 -- ---- what may be left out
@@ -30,20 +30,20 @@ module _ {A : Type 0} (c : ℕ) (none : A) (r : Read A) (Is : A → List ℕ →
   found [] a rest h = let pairs : ◌≡◌ {A = A × List ℕ} (none, []) (a, rest) = cc in ([], ap (λ q. q.1) pairs, inr (sym (ap (λ q. q.0) pairs), refl))
   found (b ∷ bs) a rest h = found_by (b == c) b bs a rest h
 
-  back_all : (rest : List ℕ) (a : A) (text : List ℕ) → Is a text → Begins (after a) rest → Begins (follow a) rest
+  back_all : (rest : List ℕ) (a : A) (text : List ℕ) → Is a text → NextIs (after a) rest → NextIs (follow a) rest
   back_all [] a text is h = tt
   back_all (b ∷ bs) a text is h = there a text is b h
 
-  nothing : (rest : List ℕ) → Begins (after none) rest → perhaps c none r rest ≡ Ok (none, rest)
+  nothing : (rest : List ℕ) → NextIs (after none) rest → perhaps c none r rest ≡ Ok (none, rest)
   nothing [] h = refl
   nothing (b ∷ bs) h = rw (left_out b h) refl
 
-  all : (a : A) (front rest : List ℕ) → Perhaps none Is a front → Begins (after a) rest → perhaps c none r (front ++ rest) ≡ Ok (a, rest)
+  all : (a : A) (front rest : List ℕ) → Perhaps none Is a front → NextIs (after a) rest → perhaps c none r (front ++ rest) ≡ Ok (a, rest)
   all a front rest (inl i) h =
       let head = heads a front i in
       ap (λ l. perhaps c none r (l ++ rest)) head.1 ∙ at_head (head.0 ++ rest) ∙ ap (λ l. r (l ++ rest)) (sym head.1) ∙ one.all a front rest i (back_all rest a front i h)
   all a front rest (inr i) h =
-      ap (λ l. perhaps c none r (l ++ rest)) i.1 ∙ nothing rest (subst (λ (x : A). Begins (after x) rest) i.0 h) ∙ ap (λ x. Ok (x, rest)) (sym i.0)
+      ap (λ l. perhaps c none r (l ++ rest)) i.1 ∙ nothing rest (subst (λ (x : A). NextIs (after x) rest) i.0 h) ∙ ap (λ x. Ok (x, rest)) (sym i.0)
 
   next_by : (t : Bool) (b : ℕ) (bs : List ℕ) (a : A) (d : ℕ) (ds : List ℕ) → (b == c) ≡ t → cond t (r (b ∷ bs)) (Ok (none, b ∷ bs)) ≡ Ok (a, d ∷ ds) → after a d
   next_by true b bs a d ds e h = back (b ∷ bs) a (d ∷ ds) h d (one.next (b ∷ bs) a d ds h)

@@ -1,7 +1,7 @@
 -- Signs are read exactly, and readings one after the other of which each begins with no space.
 use Rattle.std.proofs.Common.{◌≡◌, ℕ, ◌+◌, ◌<◌, ◌==◌, Bool, true, false, cond, List, [], ◌∷◌, ◌++◌, length, Result, Ok, Err, refl, sym, ◌∙◌, ap, subst, add-one}
 use Rattle.std.specs.Prelude.{⊤, replicate}
-use Rattle.grammar.specs.Exact.{Read, Exact, StopsAt, Begins}
+use Rattle.grammar.specs.Exact.{Read, Exact, StopsAt, NextIs}
 use Rattle.key_types.specs.Kinds.{AreBytes}
 use Rattle.grammar.specs.Reading.{without_spaces, sign_at, IsSign, NoSpace, then_read, Then, Mapped, IsToken, IsEnd}
 use Rattle.std.proofs.lemmas.List.{append-nil}
@@ -24,7 +24,7 @@ sign_found c (b ∷ bs) a rest h =
     let q = skipped bs in
     (c ∷ replicate q.0 32, ap (λ x. x ∷ bs) p.0 ∙ ap (λ l. c ∷ l) q.1 ∙ ap (λ l. c ∷ (replicate q.0 32 ++ l)) p.1, (q.0, refl))
 
-sign_all : (c : ℕ) (a : ⊤) (front rest : List ℕ) → IsSign c a front → Begins NoSpace rest → sign_at c (front ++ rest) ≡ Ok (a, rest)
+sign_all : (c : ℕ) (a : ⊤) (front rest : List ℕ) → IsSign c a front → NextIs NoSpace rest → sign_at c (front ++ rest) ≡ Ok (a, rest)
 sign_all c a front rest is h =
     ap (λ l. sign_at c (l ++ rest)) is.1
     ∙ ap (λ t. cond {A = GotSign} t (Ok (tt, without_spaces (replicate is.0 32 ++ rest))) (Err (length (replicate is.0 32 ++ rest) + 1))) (self c) ∙ ap (λ l. Ok (tt, l)) (skips is.0 rest h)
@@ -61,10 +61,10 @@ pub map_heads : {A B : Type 0} (Holds : ℕ → Type 0) (f : A → B) (Is : A �
 map_heads Holds f Is h b text is = h is.0 text is.1
 
 -- a text that so begins may stand where such a byte may
-pub heads_begin : {A : Type 0} (Holds : ℕ → Type 0) (Is : A → List ℕ → Type 0) → Heads Holds Is → (a : A) (text rest : List ℕ) → Is a text → Begins Holds (text ++ rest)
-heads_begin Holds Is h a text rest is = let p = h a text is in subst (λ (l : List ℕ). Begins Holds (l ++ rest)) (sym p.2) p.3
+pub heads_begin : {A : Type 0} (Holds : ℕ → Type 0) (Is : A → List ℕ → Type 0) → Heads Holds Is → (a : A) (text rest : List ℕ) → Is a text → NextIs Holds (text ++ rest)
+heads_begin Holds Is h a text rest is = let p = h a text is in subst (λ (l : List ℕ). NextIs Holds (l ++ rest)) (sym p.2) p.3
 
-pub begins_as : (P Q : ℕ → Type 0) → ((b : ℕ) → P b → Q b) → (rest : List ℕ) → Begins P rest → Begins Q rest
+pub begins_as : (P Q : ℕ → Type 0) → ((b : ℕ) → P b → Q b) → (rest : List ℕ) → NextIs P rest → NextIs Q rest
 begins_as P Q f [] h = tt
 begins_as P Q f (b ∷ bs) h = f b h
 
@@ -97,5 +97,5 @@ pub then_text : {A B : Type 0} (First : A → List ℕ → Type 0) (Second : A �
 then_text First Second h k = let y = k h.0 in (y.0, h.1 ++ y.1, (h.0, h.1, y.1, h.2, y.2, refl), bytes_both h.1 y.1 h.3 y.3)
 
 -- nothing stands between
-pub empty_begins : (follow : ℕ → Type 0) (text rest : List ℕ) → text ≡ [] → Begins follow rest → Begins follow (text ++ rest)
-empty_begins follow text rest e h = subst (λ (l : List ℕ). Begins follow (l ++ rest)) (sym e) h
+pub empty_begins : (follow : ℕ → Type 0) (text rest : List ℕ) → text ≡ [] → NextIs follow rest → NextIs follow (text ++ rest)
+empty_begins follow text rest e h = subst (λ (l : List ℕ). NextIs follow (l ++ rest)) (sym e) h

@@ -2,7 +2,7 @@
 use Rattle.std.proofs.Common.{◌≡◌, ℕ, zero, suc, ◌+◌, ◌==◌, Bool, true, false, cond, List, [], ◌∷◌, ◌++◌, length, Result, Ok, Err, refl, sym, ◌∙◌, ap, arith, subst, add-one}
 use Rattle.std.specs.Prelude.{⊤, replicate, ◌&&◌}
 use Rattle.std.proofs.lemmas.Bool.Decides.{nat_tests}
-use Rattle.grammar.specs.Exact.{Exact, StopsAt, Begins}
+use Rattle.grammar.specs.Exact.{Exact, StopsAt, NextIs}
 use Rattle.key_types.specs.Kinds.{AreBytes}
 use Rattle.grammar.specs.Reading.{given_at, IsGiven, without_spaces, is_letter, gap_at, IsGap, AfterGap, ends, IsEnd, token, IsToken}
 use Rattle.grammar.proofs.Bind.{bind_exact}
@@ -81,11 +81,11 @@ no_space_left (x ∷ xs) b cs h = by (x == 32) refl h (no_space_left xs b cs)
     by true e h f = f h
     by false e h f = let same : x ≡ b = cc in subst (λ (y : ℕ). (y == 32) ≡ false) same e
 
-pub stays : (rest : List ℕ) → Begins (λ b. (b == 32) ≡ false) rest → without_spaces rest ≡ rest
+pub stays : (rest : List ℕ) → NextIs (λ b. (b == 32) ≡ false) rest → without_spaces rest ≡ rest
 stays [] h = refl
 stays (b ∷ bs) h = rw h refl
 
-pub skips : (n : ℕ) (rest : List ℕ) → Begins (λ b. (b == 32) ≡ false) rest → without_spaces (replicate n 32 ++ rest) ≡ rest
+pub skips : (n : ℕ) (rest : List ℕ) → NextIs (λ b. (b == 32) ≡ false) rest → without_spaces (replicate n 32 ++ rest) ≡ rest
 skips zero rest h = stays rest h
 skips (suc n) rest h = skips n rest h
 
@@ -122,15 +122,15 @@ next_gap : (word : Bool) (bs : List ℕ) (a : Bool) (c : ℕ) (cs : List ℕ) �
 next_gap word [] a c cs h = let pairs : ◌≡◌ {A = Bool × List ℕ} (false, []) (a, c ∷ cs) = cc in let lists : [] ≡ c ∷ cs = ap (λ q. q.1) pairs in cc
 next_gap word (b ∷ bs) a c cs h = next_gap_by word (b == 32) (word && is_letter b) b bs a c cs refl refl h
 
-no_gap : (word : Bool) (rest : List ℕ) → Begins (AfterGap word false) rest → gap_at word rest ≡ Ok (false, rest)
+no_gap : (word : Bool) (rest : List ℕ) → NextIs (AfterGap word false) rest → gap_at word rest ≡ Ok (false, rest)
 no_gap word [] h = refl
 no_gap word (b ∷ bs) h = rw (h.0, h.1) refl
 
-all_gap : (word a : Bool) (front rest : List ℕ) → IsGap a front → Begins (AfterGap word a) rest → gap_at word (front ++ rest) ≡ Ok (a, rest)
+all_gap : (word a : Bool) (front rest : List ℕ) → IsGap a front → NextIs (AfterGap word a) rest → gap_at word (front ++ rest) ≡ Ok (a, rest)
 all_gap word false front rest is h = ap (λ l. gap_at word (l ++ rest)) is ∙ no_gap word rest h
 all_gap word true front rest is h = ap (λ l. gap_at word (l ++ rest)) is.1 ∙ ap (λ l. Ok (true, l)) (skips is.0 rest (spaces_end rest h))
   where
-    spaces_end : (rest : List ℕ) → Begins (AfterGap word true) rest → Begins (λ b. (b == 32) ≡ false) rest
+    spaces_end : (rest : List ℕ) → NextIs (AfterGap word true) rest → NextIs (λ b. (b == 32) ≡ false) rest
     spaces_end [] h = tt
     spaces_end (b ∷ bs) h = h
 
@@ -148,7 +148,7 @@ stops_gap word (b ∷ bs) left h = stops_gap_by word (b == 32) (word && is_lette
 pub gap_exact : (word : Bool) → Exact (gap_at word) IsGap (AfterGap word)
 gap_exact word = record { found = found_gap word; all = all_gap word; next = next_gap word; stops = stops_gap word }
 
-pub any_rest : (rest : List ℕ) → Begins (λ _. ⊤) rest
+pub any_rest : (rest : List ℕ) → NextIs (λ _. ⊤) rest
 any_rest [] = tt
 any_rest (b ∷ bs) = tt
 
@@ -172,7 +172,7 @@ module _ {A : Type 0} (bad : ℕ → Bool) (a : A) where
   found_end [] x rest h = let pairs : ◌≡◌ {A = A × List ℕ} (a, []) (x, rest) = cc in ([], ap (λ q. q.1) pairs, (sym (ap (λ q. q.0) pairs), refl))
   found_end (b ∷ bs) x rest h = let p = end_by (bad b) b bs x rest h in ([], p.2, (p.1, refl))
 
-  here : (rest : List ℕ) → Begins (λ b. bad b ≡ false) rest → ends bad a rest ≡ Ok (a, rest)
+  here : (rest : List ℕ) → NextIs (λ b. bad b ≡ false) rest → ends bad a rest ≡ Ok (a, rest)
   here [] h = refl
   here (b ∷ bs) h = rw h refl
 

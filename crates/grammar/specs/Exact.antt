@@ -7,9 +7,9 @@ abbrev pub Read : Type 0 → Type 0
 Read A = List ℕ → Result (A × List ℕ) ℕ
 
 -- what may stand behind a text: nothing, or a byte of which this holds
-abbrev pub Begins : (ℕ → Type 0) → List ℕ → Type 0
-Begins follow [] = Unit {0}
-Begins follow (b ∷ bs) = follow b
+abbrev pub NextIs : (ℕ → Type 0) → List ℕ → Type 0
+NextIs follow [] = Unit {0}
+NextIs follow (b ∷ bs) = follow b
 
 -- some bytes behind these make a text of the grammar
 abbrev pub Viable : {A : Type 0} → (A → List ℕ → Type 0) → List ℕ → Type 0
@@ -27,7 +27,7 @@ pub record StopsAt {A : Type 0} (read : Read A) (Is : A → List ℕ → Type 0)
 -- the reading reads the grammar, and stops exactly where none of its texts goes on; follow a holds of the bytes that may stand behind a text that was read as a
 pub record Exact {A : Type 0} (read : Read A) (Is : A → List ℕ → Type 0) (follow : A → ℕ → Type 0) : Type 0 where
   pub found : (text : List ℕ) (a : A) (rest : List ℕ) → read text ≡ Ok (a, rest) → (front : List ℕ) × (text ≡ front ++ rest) × Is a front
-  pub all : (a : A) (front rest : List ℕ) → Is a front → Begins (follow a) rest → read (front ++ rest) ≡ Ok (a, rest)
+  pub all : (a : A) (front rest : List ℕ) → Is a front → NextIs (follow a) rest → read (front ++ rest) ≡ Ok (a, rest)
   pub next : (text : List ℕ) (a : A) (b : ℕ) (bs : List ℕ) → read text ≡ Ok (a, b ∷ bs) → follow a b
   pub stops : (text : List ℕ) (left : ℕ) → read text ≡ Err left → StopsAt read Is text left
 

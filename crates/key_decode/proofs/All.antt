@@ -2,7 +2,7 @@
 use Rattle.std.proofs.Common.{◌≡◌, ℕ, ◌+◌, ◌≤◌, ◌==◌, ◌^◌, Bool, true, false, cond, List, [], ◌∷◌, ◌++◌, length, Result, Ok, Err, arith, refl, sym, ◌∙◌, ap, subst, add-one, inl}
 use Rattle.std.specs.Prelude.{⊤, pos, negsuc}
 use Rattle.std.proofs.lemmas.Bool.Decides.{nat_tests}
-use Rattle.grammar.specs.Exact.{Exact, StopsAt, Begins}
+use Rattle.grammar.specs.Exact.{Exact, StopsAt, NextIs}
 use Rattle.grammar.specs.Reading.{Then, map_read, Mapped, given_at, IsGiven, Either}
 use Rattle.grammar.proofs.Octets.{bytes_both}
 use Rattle.grammar.proofs.Bind.{bind_exact}
@@ -189,8 +189,8 @@ first : (ts : Kinds) (vs : Vals) (bs : List ℕ) → AreRead ts vs bs → (b : �
 first end vs bs is = (0x38, [], is.1, (omega arith, omega arith))
 first (more t ts) vs bs is = (0x40, is.2, is.5 ∙ ap (λ l. l ++ is.2) is.3, (omega arith, omega arith))
 
-may_follow : (t : Kind) (ts : Kinds) (vs : Vals) (bs rest : List ℕ) → AreRead ts vs bs → Begins (MayFollow t) (bs ++ rest)
-may_follow t ts vs bs rest is = let p = first ts vs bs is in subst (λ (l : List ℕ). Begins (MayFollow t) (l ++ rest)) (sym p.2) (between t p.0 p.3)
+may_follow : (t : Kind) (ts : Kinds) (vs : Vals) (bs rest : List ℕ) → AreRead ts vs bs → NextIs (MayFollow t) (bs ++ rest)
+may_follow t ts vs bs rest is = let p = first ts vs bs is in subst (λ (l : List ℕ). NextIs (MayFollow t) (l ++ rest)) (sym p.2) (between t p.0 p.3)
 
 abbrev All : Kinds → Type 0
 All ts = Exact (values_at ts) (AreRead ts) (Free {A = Vals})

@@ -2,14 +2,14 @@
 use Rattle.std.proofs.Common.{◌≡◌, ℕ, zero, suc, ◌==◌, ◌+◌, ◌-◌, ◌*◌, ◌^◌, ◌<◌, ◌≤◌, Bool, true, false, cond, List, [], ◌∷◌, ◌++◌, length, Result, Ok, Err, arith, refl, sym, ◌∙◌, ap, subst, add-one}
 use Rattle.std.specs.Prelude.{⊤, nat_le, ◌&&◌, replicate, if◌then◌else◌}
 use Rattle.std.proofs.lemmas.Bool.Decides.{nat_tests}
-use Rattle.grammar.specs.Exact.{Read, Exact, StopsAt, Begins}
+use Rattle.grammar.specs.Exact.{Read, Exact, StopsAt, NextIs}
 use Rattle.key_types.specs.Kinds.{AreBytes}
 use Rattle.grammar.specs.Reading.{then_read, Then}
 use Rattle.grammar.proofs.Bind.{bind_exact}
 use Rattle.key_decode.specs.Reading.{unsigned_at, is_from, byte_from, count_behind, base, least_second, nine_at, third_at, second_at, long_at}
 use Rattle.grammar.proofs.Front.{stops_first, stops_empty}
 
-pub any : (bs rest : List ℕ) → Begins (λ _. ⊤) (bs ++ rest)
+pub any : (bs rest : List ℕ) → NextIs (λ _. ⊤) (bs ++ rest)
 any [] [] = tt
 any [] (r ∷ rest) = tt
 any (b ∷ bs) rest = tt

@@ -3,7 +3,7 @@ use Rattle.std.proofs.Common.{◌≡◌, ℕ, zero, suc, ◌==◌, ◌+◌, Bool
 use Rattle.std.proofs.lemmas.Bool.Decides.{nat_tests}
 use Rattle.byte_comparable.specs.Encoding.{escaped}
 use Rattle.byte_comparable.proofs.Zeros.{plain, behind_zero, escaped_plain}
-use Rattle.grammar.specs.Exact.{Exact, StopsAt, Begins}
+use Rattle.grammar.specs.Exact.{Exact, StopsAt, NextIs}
 use Rattle.key_decode.specs.Reading.{text_at, after_zero, after_run, EndsText}
 use Rattle.grammar.specs.Reading.{onto}
 use Rattle.grammar.proofs.Front.{stops_first, stops_empty}
@@ -108,17 +108,17 @@ mutual
 
 -- ---- all
 
-ends_here : (rest : List ℕ) → Begins EndsText rest → after_zero rest ≡ Ok ([], rest)
+ends_here : (rest : List ℕ) → NextIs EndsText rest → after_zero rest ≡ Ok ([], rest)
 ends_here [] h = refl
 ends_here (b ∷ bs) h = rw (h.0, h.1) refl
 
 mutual
-  all_text : (a rest : List ℕ) → Begins EndsText rest → text_at (plain a ++ rest) ≡ Ok (a, rest)
+  all_text : (a rest : List ℕ) → NextIs EndsText rest → text_at (plain a ++ rest) ≡ Ok (a, rest)
   all_text [] rest h = ends_here rest h
   all_text (zero ∷ a) rest h = all_zero a rest h
   all_text (suc b ∷ a) rest h = rw (positive b) (ap (onto (suc b)) (all_text a rest h))
 
-  all_zero : (a rest : List ℕ) → Begins EndsText rest → after_zero (behind_zero a ++ rest) ≡ Ok (0 ∷ a, rest)
+  all_zero : (a rest : List ℕ) → NextIs EndsText rest → after_zero (behind_zero a ++ rest) ≡ Ok (0 ∷ a, rest)
   all_zero [] rest h = ap (onto 0) (ends_here rest h)
   all_zero (zero ∷ a) rest h = ap (onto 0) (all_zero a rest h)
   all_zero (suc b ∷ a) rest h = rw (positive b) (ap (λ r. onto 0 (onto (suc b) r)) (all_text a rest h))

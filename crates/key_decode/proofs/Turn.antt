@@ -1,7 +1,7 @@
 -- A reading of the complement of the bytes.
 use Rattle.std.proofs.Common.{◌≡◌, ℕ, ◌<◌, Bool, true, false, List, [], ◌∷◌, ◌++◌, length, Result, Ok, Err, arith, refl, sym, ◌∙◌, ap, subst}
 use Rattle.std.proofs.lemmas.Bool.Decides.{nat_tests}
-use Rattle.grammar.specs.Exact.{Read, Exact, StopsAt, Begins}
+use Rattle.grammar.specs.Exact.{Read, Exact, StopsAt, NextIs}
 use Rattle.key_types.specs.Kinds.{AreBytes}
 use Rattle.key_decode.specs.Reading.{byte_complement, complemented, seen, back, complement_read}
 
@@ -45,7 +45,7 @@ module _ {A : Type 0} (r : Read A) (Is : A → List ℕ → Type 0) (follow : A 
   err_by (Ok y) left h = cc
   err_by (Err n) left h = cc
 
-  begins : (rest : List ℕ) (a : A) → Begins (λ b. follow a (byte_complement b)) rest → Begins (follow a) (complemented rest)
+  begins : (rest : List ℕ) (a : A) → NextIs (λ b. follow a (byte_complement b)) rest → NextIs (follow a) (complemented rest)
   begins [] a h = tt
   begins (b ∷ bs) a h = h
 
@@ -54,7 +54,7 @@ module _ {A : Type 0} (r : Read A) (Is : A → List ℕ → Type 0) (follow : A 
       let p = one.found (complemented text) a (complemented rest) (ok_by (r (complemented text)) a rest h) in
       (complemented p.0, sym (all_twice text) ∙ ap complemented p.1 ∙ both p.0 (complemented rest) ∙ ap (λ l. complemented p.0 ++ l) (all_twice rest), subst (Is a) (sym (all_twice p.0)) p.2)
 
-  all : (a : A) (front rest : List ℕ) → Turned Is a front → Begins (λ b. follow a (byte_complement b)) rest → complement_read r (front ++ rest) ≡ Ok (a, rest)
+  all : (a : A) (front rest : List ℕ) → Turned Is a front → NextIs (λ b. follow a (byte_complement b)) rest → complement_read r (front ++ rest) ≡ Ok (a, rest)
   all a front rest is h =
       ap (λ l. back (r l)) (both front rest) ∙ ap back (one.all a (complemented front) (complemented rest) is (begins rest a h)) ∙ ap (λ l. Ok (a, l)) (all_twice rest)
 

@@ -3,7 +3,7 @@ use Rattle.std.proofs.Common.{◌≡◌, ℕ, zero, suc, ◌==◌, Bool, true, f
 use Rattle.std.specs.Prelude.{⊤, codes, replicate, ℤ}
 use Rattle.std.proofs.lemmas.Bool.Decides.{nat_tests}
 use Rattle.std.proofs.lemmas.List.{append-nil}
-use Rattle.grammar.specs.Exact.{Read, Exact, Begins}
+use Rattle.grammar.specs.Exact.{Read, Exact, NextIs}
 use Rattle.grammar.specs.Reading.{Then, map_read, Mapped, ends, IsEnd, Either, IsOneOf, IsToken as IsWordToken, is_letter, AfterGap, NoSpace, spaces_at, AreSpaces}
 use Rattle.grammar.proofs.Octets.{are_bytes}
 use Rattle.grammar.proofs.Bind.{bind_exact}
@@ -74,10 +74,10 @@ pub closing_exact : Exact closing_at IsClosing After
 closing_exact = bind_exact spaces_at (λ _. ends no_end tt) AreSpaces (λ _. IsEnd tt) (λ _. NoSpace) After spaces_exact (λ _. ends_exact no_end tt) (λ _. end_text tt)
     (λ a b bs rest is h. empty_begins NoSpace bs rest is.1 (begins_as (λ b. no_end b ≡ false) NoSpace end_space rest h))
 
-closing_begins : (P : ℕ → Type 0) → P 32 → ((b : ℕ) → no_end b ≡ false → P b) → (u : ⊤) (bs rest : List ℕ) → IsClosing u bs → Begins (λ b. no_end b ≡ false) rest → Begins P (bs ++ rest)
+closing_begins : (P : ℕ → Type 0) → P 32 → ((b : ℕ) → no_end b ≡ false → P b) → (u : ⊤) (bs rest : List ℕ) → IsClosing u bs → NextIs (λ b. no_end b ≡ false) rest → NextIs P (bs ++ rest)
 closing_begins P at to u bs rest (a, spaces, empty, (zero, e), ended, f) h =
     empty_begins P bs rest (f ∙ ap (λ l. l ++ empty) e ∙ ended.1) (begins_as (λ b. no_end b ≡ false) P to rest h)
-closing_begins P at to u bs rest (a, spaces, empty, (suc n, e), ended, f) h = subst (λ (l : List ℕ). Begins P (l ++ rest)) (sym (f ∙ ap (λ l. l ++ empty) e)) at
+closing_begins P at to u bs rest (a, spaces, empty, (suc n, e), ended, f) h = subst (λ (l : List ℕ). NextIs P (l ++ rest)) (sym (f ∙ ap (λ l. l ++ empty) e)) at
 
 module _ {A : Type 0} (r : Read A) (Is : A → List ℕ → Type 0) (P : ℕ → Type 0) (one : Exact r Is (λ _. P)) (some : HasText Is) (at : P 32) (to : (b : ℕ) → no_end b ≡ false → P b) where
   abbrev IsClosed : A → List ℕ → Type 0

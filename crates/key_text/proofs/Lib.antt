@@ -14,3 +14,5 @@ pub mod Whole
 pub mod Decimals
 pub mod Back
 pub mod Utf8Written
+pub mod Hexadecimal
+pub mod HexRuns

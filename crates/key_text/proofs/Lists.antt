@@ -1,7 +1,7 @@
 -- Lists of components are read exactly, and so are values of every type.
 use Rattle.std.proofs.Common.{◌≡◌, ℕ, true, false, List, [], ◌∷◌, ◌++◌, refl, sym, ◌∙◌, ap, arith, subst, inl}
 use Rattle.std.specs.Prelude.{codes, replicate, pos}
-use Rattle.grammar.specs.Exact.{Read, Exact, Begins}
+use Rattle.grammar.specs.Exact.{Read, Exact, NextIs}
 use Rattle.grammar.specs.Reading.{then_read, Then, map_read, Mapped, ends, IsEnd, sign_at, IsSign, NoSpace, spaces_at, AreSpaces}
 use Rattle.grammar.proofs.Octets.{are_bytes, bytes_both}
 use Rattle.grammar.proofs.Bind.{bind_exact}
@@ -42,12 +42,12 @@ follow_close boolean b h = close_end b h
 follow_close (tuple ts) b h = end_space b (close_end b h)
 follow_close (reversed t) b h = follow_close t b h
 
-further_begins : (t : Kind) (ts : Kinds) (vs : Vals) (bs rest : List ℕ) → AreFurther ts vs bs → Begins (λ b. no_close b ≡ false) rest → Begins (Follow t) (bs ++ rest)
+further_begins : (t : Kind) (ts : Kinds) (vs : Vals) (bs rest : List ℕ) → AreFurther ts vs bs → NextIs (λ b. no_close b ≡ false) rest → NextIs (Follow t) (bs ++ rest)
 further_begins t end none bs rest is h = empty_begins (Follow t) bs rest is (begins_as (λ b. no_close b ≡ false) (Follow t) (follow_close t) rest h)
 further_begins t end (and v vs) bs rest is h = absurd is
 further_begins t (more u us) none bs rest is h = absurd is
 further_begins t (more u us) (and v vs) bs rest (comma, first, behind, sign, lit, further, e) h =
-    subst (λ (l : List ℕ). Begins (Follow t) (l ++ rest)) (sym (e ∙ ap (λ l. l ++ (first ++ behind)) sign.1)) (follow_comma t)
+    subst (λ (l : List ℕ). NextIs (Follow t) (l ++ rest)) (sym (e ∙ ap (λ l. l ++ (first ++ behind)) sign.1)) (follow_comma t)
 
 -- ---- how values begin, and that each type has one
 

@@ -2,7 +2,7 @@
 use Rattle.std.proofs.Common.{◌≡◌, ℕ, ◌+◌, ◌-◌, ◌*◌, Bool, true, false, cond, List, [], ◌∷◌, ◌++◌, length, Result, Ok, Err, refl, sym, ◌∙◌, ap, arith, subst, add-one, inl, inr}
 use Rattle.std.specs.Prelude.{⊤, codes}
 use Rattle.std.proofs.lemmas.Bool.Decides.{nat_tests}
-use Rattle.grammar.specs.Exact.{Exact, StopsAt, Begins}
+use Rattle.grammar.specs.Exact.{Exact, StopsAt, NextIs}
 use Rattle.key_types.specs.Kinds.{AreBytes}
 use Rattle.grammar.specs.Reading.{given_at, IsGiven, then_read, Then, map_read, Mapped, ends, IsEnd, Either}
 use Rattle.grammar.proofs.Octets.{are_bytes}
@@ -35,11 +35,11 @@ digits_found : (n : ℕ) (text : List ℕ) (m : ℕ) (rest : List ℕ) → digit
 digits_found n [] m rest h = let pairs : ◌≡◌ {A = ℕ × List ℕ} (n, []) (m, rest) = cc in ([], ap (λ q. q.1) pairs, (tt, sym (ap (λ q. q.0) pairs)))
 digits_found n (b ∷ bs) m rest h = digits_by (is_digit b) n b bs m rest refl h (digits_found (n * 10 + (b - 48)) bs m rest)
 
-digits_end : (n : ℕ) (rest : List ℕ) → Begins NoDigit rest → digits_at n rest ≡ Ok (n, rest)
+digits_end : (n : ℕ) (rest : List ℕ) → NextIs NoDigit rest → digits_at n rest ≡ Ok (n, rest)
 digits_end n [] h = refl
 digits_end n (b ∷ bs) h = ap (λ t. cond {A = Got} t (digits_at (n * 10 + (b - 48)) bs) (Ok (n, b ∷ bs))) h
 
-digits_all : (n : ℕ) (front rest : List ℕ) → AreDigits front → Begins NoDigit rest → digits_at n (front ++ rest) ≡ Ok (more_digits n front, rest)
+digits_all : (n : ℕ) (front rest : List ℕ) → AreDigits front → NextIs NoDigit rest → digits_at n (front ++ rest) ≡ Ok (more_digits n front, rest)
 digits_all n [] rest is h = digits_end n rest h
 digits_all n (d ∷ ds) rest is h = ap (λ t. cond {A = Got} t (digits_at (n * 10 + (d - 48)) (ds ++ rest)) (Ok (n, d ∷ (ds ++ rest)))) is.0 ∙ digits_all (n * 10 + (d - 48)) ds rest is.1 h
 
@@ -73,7 +73,7 @@ positive_found : (text : List ℕ) (m : ℕ) (rest : List ℕ) → positive_at t
 positive_found [] m rest h = cc
 positive_found (b ∷ bs) m rest h = positive_by (is_nonzero b) b bs m rest refl h
 
-positive_all : (m : ℕ) (front rest : List ℕ) → IsPositive m front → Begins NoDigit rest → positive_at (front ++ rest) ≡ Ok (m, rest)
+positive_all : (m : ℕ) (front rest : List ℕ) → IsPositive m front → NextIs NoDigit rest → positive_at (front ++ rest) ≡ Ok (m, rest)
 positive_all m front rest is h =
     ap (λ l. positive_at (l ++ rest)) is.2 ∙ ap (λ t. cond {A = Got} t (digits_at (is.0 - 48) (is.1 ++ rest)) (Err (length (is.1 ++ rest) + 1))) is.3
     ∙ digits_all (is.0 - 48) is.1 rest is.4 h ∙ ap (λ k. Ok (k, rest)) (sym is.5)

@@ -4,7 +4,7 @@ use Rattle.std.specs.Prelude.{⊤, codes}
 use Rattle.std.proofs.lemmas.Bool.Decides.{nat_tests}
 use Rattle.std.proofs.lemmas.List.{append-nil}
 use Rattle.key_types.specs.Literals.{quotes_doubled}
-use Rattle.grammar.specs.Exact.{Exact, StopsAt, Begins}
+use Rattle.grammar.specs.Exact.{Exact, StopsAt, NextIs}
 use Rattle.key_types.specs.Kinds.{AreBytes}
 use Rattle.grammar.specs.Reading.{given_at, IsGiven, Then, onto}
 use Rattle.grammar.proofs.Octets.{are_bytes}
@@ -83,7 +83,7 @@ mutual
   behind_found [] v rest h = let pairs : ◌≡◌ {A = List ℕ × List ℕ} ([], []) (v, rest) = cc in ([], ap (λ q. q.1) pairs, ap (λ q. quotes_doubled q.0 ++ 39 ∷ []) pairs)
   behind_found (b ∷ bs) v rest h = behind_by (b == 39) b bs v rest refl h (quoted_found bs)
 
-closes : (rest : List ℕ) → Begins NoQuote rest → behind_quote rest ≡ Ok ([], rest)
+closes : (rest : List ℕ) → NextIs NoQuote rest → behind_quote rest ≡ Ok ([], rest)
 closes [] h = refl
 closes (b ∷ bs) h = ap (λ t. cond {A = Got} t (onto 39 (quoted_at bs)) (Ok ([], b ∷ bs))) h
 
@@ -91,7 +91,7 @@ all_by : (t : Bool) (b : ℕ) (v rest : List ℕ) → (b == 39) ≡ t → quoted
 all_by true b v rest e h = ap (onto 39) h ∙ ap (λ x. Ok (x ∷ v, rest)) (sym (same_byte b 39 e))
 all_by false b v rest e h = ap (λ t. cond {A = Got} t (behind_quote (quotes_doubled v ++ 39 ∷ rest)) (onto b (quoted_at (quotes_doubled v ++ 39 ∷ rest)))) e ∙ ap (onto b) h
 
-quoted_all : (v rest : List ℕ) → Begins NoQuote rest → quoted_at (quotes_doubled v ++ 39 ∷ rest) ≡ Ok (v, rest)
+quoted_all : (v rest : List ℕ) → NextIs NoQuote rest → quoted_at (quotes_doubled v ++ 39 ∷ rest) ≡ Ok (v, rest)
 quoted_all [] rest h = closes rest h
 quoted_all (b ∷ v) rest h = all_by (b == 39) b v rest refl (quoted_all v rest h)
 
@@ -215,11 +215,11 @@ mutual
   low_found [] high v rest h = cc
   low_found (b ∷ bs) high v rest h = low_by (is_hex b) high b bs v rest refl h (hex_found bs)
 
-hex_end : (rest : List ℕ) → Begins NoHex rest → hex_at rest ≡ Ok ([], rest)
+hex_end : (rest : List ℕ) → NextIs NoHex rest → hex_at rest ≡ Ok ([], rest)
 hex_end [] h = refl
 hex_end (b ∷ bs) h = ap (λ t. cond {A = Got} t (low_at (hex_value b) bs) (Ok ([], b ∷ bs))) h
 
-hex_all : (v front rest : List ℕ) → AreHex v front → Begins NoHex rest → hex_at (front ++ rest) ≡ Ok (v, rest)
+hex_all : (v front rest : List ℕ) → AreHex v front → NextIs NoHex rest → hex_at (front ++ rest) ≡ Ok (v, rest)
 hex_all [] front rest is h = ap (λ l. hex_at (l ++ rest)) is ∙ hex_end rest h
 hex_all (b ∷ v) front rest (high, low, more, e, f, g, same, is) h =
     ap (λ l. hex_at (l ++ rest)) e ∙ ap (λ t. cond {A = Got} t (low_at (hex_value high) (low ∷ (more ++ rest))) (Ok ([], high ∷ low ∷ (more ++ rest)))) f

@@ -23,14 +23,14 @@ abbrev pub Marked : Type 0 → Type 0
 Marked A = A × Option ℕ
 
 -- the first mark stays
-abbrev pub first_of : Option ℕ → ℕ → Option ℕ
-first_of None left = Some left
-first_of (Some x) left = Some x
+abbrev pub first_mark : Option ℕ → ℕ → Option ℕ
+first_mark None left = Some left
+first_mark (Some x) left = Some x
 
 -- the number, or 0 with the place marked where it isn't within the bound
 abbrev pub marked_number : Option ℕ → ℕ → Option ℤ → Marked Val
 marked_number mark left (Some z) = (number z, mark)
-marked_number mark left None = (number (pos 0), first_of mark left)
+marked_number mark left None = (number (pos 0), first_mark mark left)
 
 -- a number of a type whose numbers are within the bound
 abbrev pub marked_number_at : ℕ → Option ℕ → Read (Marked Val)

@@ -104,8 +104,3 @@ truth_at = then_read truth_word_at (λ x. ends no_end x.0)
 -- what is read of a number, under the cap
 abbrev pub capped_all : Result (ℕ × List ℕ) ℕ → Result (ℕ × List ℕ) ℕ
 capped_all read = mapped (λ n. min n (2 ^ 64 - 1)) read
-
--- the next byte of a blob, or none behind its last, and what is left
-abbrev pub pair_by : Option ℕ → Read (List ℕ)
-pair_by None rest = Ok ([], rest)
-pair_by (Some b) rest = onto b (hex_at rest)

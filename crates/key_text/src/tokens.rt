@@ -1,13 +1,16 @@
 //! The tokens of literals, from the front of bytes.
-ghost use Rattle.std.specs.Prelude.{◌≡◌, ◌≤◌, ◌<◌, ◌+◌, ◌*◌, ◌^◌, ◌∷◌, [], ℕ, List, length, min, codes, Ok, Err, IfOk, IfErr, IfSome, IfNone, ⊤, true, Option, Some, None};
+ghost use Rattle.std.specs.Prelude.{◌≡◌, ◌≤◌, ◌<◌, ◌+◌, ◌*◌, ◌^◌, ◌∷◌, ◌++◌, [], ℕ, List, length, min, codes, not, Ok, Err, IfOk, IfErr, IfSome, IfNone, ⊤, true, false, Option, Some, None};
+ghost use Rattle.std.specs.List.{AllByRecursion, position_from};
 ghost use Rattle.grammar.specs.Code.{Gives};
+ghost use Rattle.grammar.specs.Exact.{NextIs};
 ghost use Rattle.grammar.specs.Reading.{given_at, ends, mapped, map_read, spaces_at, with_front};
 ghost use Rattle.grammar.specs.declared.stop.Stop.TheVariants.{At};
-ghost use Rattle.key_text.specs.Tokens.{is_digit, is_hex, hex_value};
-ghost use Rattle.key_text.specs.Reading.{digits_at, positive_at, zero_at, magnitude_at, number_at, capped_number, capped_all, quoted_at, quoted_text_at, hex_at, pair_by, blob_at, no_end, no_close, closing_at, truth_word_at, truth_at};
+ghost use Rattle.key_text.specs.Tokens.{is_digit, is_hex};
+ghost use Rattle.key_text.specs.Reading.{digits_at, positive_at, zero_at, magnitude_at, number_at, capped_number, capped_all, quoted_at, quoted_text_at, hex_at, blob_at, no_end, no_close, closing_at, truth_word_at, truth_at};
 
 use crate::quotes::split_quote;
 use grammar::{Stop, further, read_word, skip_spaces};
+use hex::FromHexError;
 use key_types::ByteList;
 use std::alloc::Global;
 
@@ -151,48 +154,32 @@ fn is_hex(byte: u8) -> bool
     byte.is_ascii_hexdigit()
 }
 
-/// The value of a hexadecimal digit.
-fn hex_value(byte: u8) -> u8
-    requires { is_hex byte ≡ true }
-    ensures value { result ≡ hex_value byte }
-    ensures bound { result < 16 }
+/// Where the first byte stands that is no hexadecimal digit.
+fn digits_end(bytes: &[u8]) -> Option<usize>
+    ensures { result ≡ position_from (λ b. not (is_hex b)) 0 bytes.now }
 {
-    match byte {
-        b'0'..=b'9' => byte - b'0',
-        b'a'..=b'f' => byte - b'a' + 10,
-        _ => byte - b'A' + 10,
-    }
+    bytes.iter().position(|b| !is_hex(*b))
 }
 
-/// The next byte of a blob, and none where no digit stands.
-fn next_pair(bytes: &[u8]) -> Result<(Option<u8>, &[u8]), Stop>
-    ensures ok { IfOk result (λ x. hex_at bytes.now ≡ pair_by x.0 x.1.now) }
-    ensures shorter { IfOk result (λ x. IfSome x.0 (λ _. length x.1.now < length bytes.now)) }
-    ensures err { IfErr result (λ e. (left : ℕ) × (e ≡ At left) × (hex_at bytes.now ≡ Err left)) }
+/// The hexadecimal digits at the front, and what stands behind them.
+fn split_digits(bytes: &[u8]) -> (&[u8], &[u8])
+    ensures whole { bytes.now ≡ result.0.now ++ result.1.now }
+    ensures digits { AllByRecursion (λ b. is_hex b ≡ true) result.0.now }
+    ensures behind { NextIs (λ b. is_hex b ≡ false) result.1.now }
 {
-    match bytes {
-        [high, low, rest @ ..] if is_hex(*high) && is_hex(*low) => {
-            Ok((Some(hex_value(*high) * 16 + hex_value(*low)), rest))
-        }
-        [high, rest @ ..] if is_hex(*high) => Err(Stop::At(rest.len())),
-        _ => Ok((None, bytes)),
-    }
+    let end = digits_end(bytes).unwrap_or(bytes.len());
+    bytes.split_at(end)
 }
 
 /// The bytes of a blob, two digits for each.
-#[tactic(auto, using(crate::proofs::Behind::behind_push))]
 fn read_hex(alloc: Global, bytes: &[u8]) -> Result<(ByteList, &[u8]), Stop>
     ensures { Gives (λ x. (x.0, x.1.now)) result (hex_at bytes.now) }
 {
-    let mut out = ByteList::new(alloc);
-    let mut rest = bytes;
-    'pairs: loop {
-        let (next, after) = next_pair(rest)?;
-        let Some(byte) = next else {
-            return Ok((out, after));
-        };
-        out.push(byte)?;
-        rest = after;
+    let (digits, rest) = split_digits(bytes);
+    match hex::decode(alloc, digits) {
+        Ok(decoded) => Ok((ByteList::from_vec(decoded), rest)),
+        Err(FromHexError::OddLength) => Err(Stop::At(rest.len())),
+        Err(_) => Err(Stop::Memory),
     }
 }
 

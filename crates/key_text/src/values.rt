@@ -2,7 +2,7 @@
 ghost use Rattle.std.specs.Prelude.{◌≡◌, ◌≤◌, ℕ, ◌^◌, Option, Some, None, Ok, IfSome};
 ghost use Rattle.grammar.specs.Code.{Gives};
 ghost use Rattle.key_types.specs.Kinds.{kind_of, kinds_of, value_of, values_of};
-ghost use Rattle.key_text.specs.Marking.{kept, first_of, marked_number_at, marked_at, marked_all, marked_rest, marked_list};
+ghost use Rattle.key_text.specs.Marking.{kept, first_mark, marked_number_at, marked_at, marked_all, marked_rest, marked_list};
 ghost use Rattle.key_text.specs.Reading.{closed_read, quoted_text_at, blob_at};
 
 use crate::tokens::{
@@ -34,7 +34,7 @@ fn within(bound: u64, negative: bool, number: u64) -> Option<i64>
 
 /// Marks a place, unless one before it is marked.
 fn mark(out_of_range: &mut Option<usize>, left: usize)
-    ensures { out_of_range.new ≡ first_of out_of_range.old left }
+    ensures { out_of_range.new ≡ first_mark out_of_range.old left }
 {
     if out_of_range.is_none() {
         *out_of_range = Some(left);

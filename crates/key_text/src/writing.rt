@@ -1,8 +1,8 @@
 //! Literals, and the lines of rows and static values, appended to bytes.
-ghost use Rattle.std.specs.Prelude.{◌≡◌, ◌<◌, ◌++◌, ◌∷◌, [], length, take, OnOk, OnErr};
+ghost use Rattle.std.specs.Prelude.{◌≡◌, ◌<◌, ◌≤◌, ◌++◌, ◌∷◌, [], length, take, OnOk, OnErr};
 ghost use Rattle.std.specs.Fmt.{signed_decimal};
 ghost use Rattle.key_types.specs.Kinds.{kind_of, kinds_of, value_of, values_of, EachFits};
-ghost use Rattle.key_types.specs.Literals.{text_literal, blob_literal, boolean_literal, hex_digit, quotes_doubled, hex_digits, literal, literals, list_literal};
+ghost use Rattle.key_types.specs.Literals.{text_literal, blob_literal, boolean_literal, quotes_doubled, hex_digits, literal, literals, list_literal};
 ghost use Rattle.key_text.specs.Written.{further_literals, value_literal, equals_literal};
 
 use crate::quotes::split_quote;
@@ -42,26 +42,33 @@ fn put_text(text: &[u8], out: &mut ByteList) -> Result<(), NoMemory>
     out.push(b'\'')
 }
 
-/// The hexadecimal digit of a number below 16, in lower case.
-fn hex_digit(number: u8) -> u8
-    requires { number < 16 }
-    ensures { result ≡ hex_digit number }
+/// How many bytes are spelled at once.
+const SPELLED: usize = 32;
+
+/// Puts two hexadecimal digits for each byte of a piece of at most so many at the end.
+fn put_hex_piece(piece: &[u8], out: &mut ByteList) -> Result<(), NoMemory>
+    requires { length piece.now ≤ 32 }
+    ensures ok { OnOk result (out.new ≡ out.old ++ hex_digits piece.now) }
+    ensures kept { take (length out.old) out.new ≡ out.old }
 {
-    if number < 10 {
-        b'0' + number
-    } else {
-        b'a' + (number - 10)
+    let mut digits = [0u8; 2 * SPELLED];
+    let (spelled, _) = digits.split_at_mut(2 * piece.len());
+    match hex::encode_to_slice(piece, spelled) {
+        Ok(()) => out.extend(spelled),
+        Err(_) => Err(NoMemory),
     }
 }
 
-/// Puts two hexadecimal digits for each byte at the end.
+/// Puts two hexadecimal digits for each byte at the end, in lower case.
 fn put_hex(bytes: &[u8], out: &mut ByteList) -> Result<(), NoMemory>
     ensures ok { OnOk result (out.new ≡ out.old ++ hex_digits bytes.now) }
     ensures kept { take (length out.old) out.new ≡ out.old }
 {
-    for byte in bytes {
-        out.push(hex_digit(*byte / 16))?;
-        out.push(hex_digit(*byte % 16))?;
+    let mut rest = bytes;
+    'pieces: while !rest.is_empty() {
+        let (piece, after) = rest.split_at(rest.len().min(SPELLED));
+        put_hex_piece(piece, out)?;
+        rest = after;
     }
     Ok(())
 }

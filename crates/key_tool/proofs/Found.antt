@@ -9,7 +9,7 @@ use Rattle.key_text.proofs.Back.{list_one, list_outside}
 use Rattle.key_tool.specs.declared.request.KeyFault.{KeyFault}
 use Rattle.key_tool.specs.declared.request.KeyFault.TheVariants.{Refused, NoMemory}
 use Rattle.key_tool.specs.Answers.{Finds}
-use Rattle.key_tool.proofs.Hexadecimal.{one_meaning}
+use Rattle.key_text.proofs.Hexadecimal.{one_meaning}
 use Rattle.key_tool.specs.Shown.{ShowsDecoded, ShowsEncoded, IsListLine, IsStringLine, SpellsComponents}
 
 -- a text that is refused spells no components

@@ -15,7 +15,7 @@ use Rattle.key_text.specs.Grammar.{IsList, IsText}
 use Rattle.key_text.proofs.Back.{list_one, list_text}
 use Rattle.key_tool.specs.Shown.{ShowsDecoded, ShowsEncoded, SpellsComponents, ended_line}
 use Rattle.key_tool.specs.Laws.{KeyTexts}
-use Rattle.key_tool.proofs.Hexadecimal.{in_lower_case, one_meaning, twice, written}
+use Rattle.key_text.proofs.Hexadecimal.{in_lower_case, one_meaning, twice, written}
 
 -- ---- at most one
 

@@ -1,3 +1,4 @@
 pub mod Octets
 pub mod Turned
 pub mod Puts
+pub mod Kept

@@ -3,7 +3,7 @@ use Rattle.std.proofs.Common.{◌≡◌, ◌≢◌, ◌∙◌, ℕ, zero, suc, �
 use Rattle.std.specs.Prelude.{replicate, slice_index}
 use Rattle.std.proofs.lemmas.List.{append-nil, take-append-drop}
 use Rattle.byteorder.specs.Endian.{big_number}
-use Rattle.length_prefix.specs.Counted.{count_in, counted, IsCutOff}
+use Rattle.length_prefix.specs.Counted.{stated_length, counted, IsCutOff}
 
 -- ---- one count, one item
 
@@ -29,11 +29,11 @@ counted-same a b r s e =
     fronts a b r s (same_count (length a) (length b) high low) tails
 
 -- the count of counted bytes is their number
-pub count_of_counted : (item rest : List ℕ) → count_in (counted item ++ rest) ≡ Some (length item)
+pub count_of_counted : (item rest : List ℕ) → stated_length (counted item ++ rest) ≡ Some (length item)
 count_of_counted item rest = ap Some (omega arith)
 
 -- where two bytes are there, what follows them is no matter
-pub count_goes_on : (bytes more : List ℕ) → 2 ≤ length bytes → count_in (bytes ++ more) ≡ count_in bytes
+pub count_goes_on : (bytes more : List ℕ) → 2 ≤ length bytes → stated_length (bytes ++ more) ≡ stated_length bytes
 count_goes_on [] more two = absurd (omega (arith, two))
 count_goes_on (high ∷ []) more two = absurd (omega (arith, two))
 count_goes_on (high ∷ low ∷ bytes) more two = refl
@@ -62,7 +62,7 @@ counted_as high low item fits n =
 some_is : (m n : ℕ) → ◌≡◌ {A = Option ℕ} (Some m) (Some n) → m ≡ n
 some_is m n e = cc
 
-pub begins_counted : (bytes : List ℕ) (count : ℕ) → ((i : ℕ) → slice_index bytes i < 256) → Some count ≡ count_in bytes → count ≤ length (drop 2 bytes)
+pub begins_counted : (bytes : List ℕ) (count : ℕ) → ((i : ℕ) → slice_index bytes i < 256) → Some count ≡ stated_length bytes → count ≤ length (drop 2 bytes)
     → (length (take count (drop 2 bytes)) < 2 ^ 16) × (bytes ≡ counted (take count (drop 2 bytes)) ++ drop count (drop 2 bytes))
 begins_counted [] count fits is few = cc
 begins_counted (high ∷ []) count fits is few = cc
@@ -79,7 +79,7 @@ some_zeros : (k : ℕ) → 0 < k → zeros k ≢ []
 some_zeros zero h e = omega (arith, h)
 some_zeros (suc k) h e = cc
 
-pub cut_count : (bytes : List ℕ) → ((i : ℕ) → slice_index bytes i < 256) → None ≡ count_in bytes → IsCutOff bytes
+pub cut_count : (bytes : List ℕ) → ((i : ℕ) → slice_index bytes i < 256) → None ≡ stated_length bytes → IsCutOff bytes
 cut_count [] fits is = ([], 0 ∷ 0 ∷ [], omega arith, (λ e. cc), refl)
 cut_count (high ∷ []) fits is =
     let n : length (zeros (high * 256)) ≡ high * 256 + 0 = length_zeros (high * 256) ∙ omega arith in
@@ -87,7 +87,7 @@ cut_count (high ∷ []) fits is =
     (zeros (high * 256), 0 ∷ zeros (high * 256), omega (arith, n, small), (λ e. cc), counted_as high 0 (zeros (high * 256)) (omega arith) n)
 cut_count (high ∷ low ∷ bytes) fits is = cc
 
-pub cut_item : (bytes : List ℕ) (count : ℕ) → ((i : ℕ) → slice_index bytes i < 256) → Some count ≡ count_in bytes → length (drop 2 bytes) < count → IsCutOff bytes
+pub cut_item : (bytes : List ℕ) (count : ℕ) → ((i : ℕ) → slice_index bytes i < 256) → Some count ≡ stated_length bytes → length (drop 2 bytes) < count → IsCutOff bytes
 cut_item [] count fits is few = cc
 cut_item (high ∷ []) count fits is few = cc
 cut_item (high ∷ low ∷ bytes) count fits is few =

@@ -6,10 +6,10 @@ abbrev pub counted : List ℕ → List ℕ
 counted bytes = length bytes / 256 ∷ length bytes % 256 ∷ bytes
 
 -- the length that stands in the first two bytes, where they are there
-abbrev pub count_in : List ℕ → Option ℕ
-count_in [] = None
-count_in (high ∷ []) = None
-count_in (high ∷ low ∷ bytes) = Some (high * 256 + low)
+abbrev pub stated_length : List ℕ → Option ℕ
+stated_length [] = None
+stated_length (high ∷ []) = None
+stated_length (high ∷ low ∷ bytes) = Some (high * 256 + low)
 
 -- the bytes are the beginning of some counted ones, and there is more of them
 abbrev pub IsCutOff : List ℕ → Type 0

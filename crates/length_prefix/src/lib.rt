@@ -3,7 +3,7 @@
 #![tactic(auto)]
 
 ghost use Rattle.std.specs.Prelude.{◌≡◌, ◌<◌, ◌++◌, ◌^◌, length, IfSome, IsNone, OnOk};
-ghost use Rattle.length_prefix.specs.Counted.{count_in, counted, IsCutOff};
+ghost use Rattle.length_prefix.specs.Counted.{stated_length, counted, IsCutOff};
 
 use byteorder::{BigEndian, ByteOrder};
 use key_types::{ByteList, NoMemory};
@@ -25,8 +25,8 @@ pub fn put_counted(out: &mut ByteList, bytes: &[u8]) -> Result<(), NoMemory>
 }
 
 /// The length with which the bytes begin, where both its bytes are there.
-pub fn count_in(bytes: &[u8]) -> Option<usize>
-    ensures { result ≡ count_in bytes.now }
+pub fn stated_length(bytes: &[u8]) -> Option<usize>
+    ensures { result ≡ stated_length bytes.now }
 {
     if bytes.len() < LENGTH {
         return None;
@@ -40,7 +40,7 @@ pub fn counted(bytes: &[u8]) -> Option<(&[u8], &[u8])>
     ensures some { IfSome result (λ p. (length p.0.now < 2 ^ 16) × (bytes.now ≡ counted p.0.now ++ p.1.now)) }
     ensures none { IsNone result → IsCutOff bytes.now }
 {
-    let count = count_in(bytes)?;
+    let count = stated_length(bytes)?;
     let (_, rest) = bytes.split_at(LENGTH);
     if count <= rest.len() {
         Some(rest.split_at(count))

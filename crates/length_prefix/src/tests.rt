@@ -12,6 +12,6 @@ fn strings_are_written_and_read(rt: HostRuntime) -> Result<(), Fail> {
         Some((b"ab".as_slice(), [0xFF].as_slice()))
     );
     assert_eq!(rt; counted(&[1, 0, 7]), None);
-    assert_eq!(rt; count_in(&[1, 2, 3]), Some(258));
+    assert_eq!(rt; stated_length(&[1, 2, 3]), Some(258));
     Ok(())
 }

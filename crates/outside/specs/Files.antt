@@ -70,8 +70,8 @@ Appends old new file result piece =
     (λ _. LeavesPrefix xs ys file piece))
 
 -- At Ok n the front of into has the n bytes that the file has from at, as many as there are and fit.
-abbrev pub Reads : {E : Type 0} → Option Files → FileId → ℕ → Result ℕ E → List ℕ → Type 0
-Reads files file at result into =
+abbrev pub ReadsBytes : {E : Type 0} → Option Files → FileId → ℕ → Result ℕ E → List ℕ → Type 0
+ReadsBytes files file at result into =
     IfSome files (λ m. IfOk result (λ n. (n ≡ min (length into) (length (drop at (bytes_of m file)))) × (take n into ≡ take n (drop at (bytes_of m file)))
     × (length (bytes_of m file) < 2 ^ 62)))
 

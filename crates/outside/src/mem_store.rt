@@ -1,7 +1,7 @@
 //! A store in memory with scripted failures, for tests: it tells its files.
 ghost use Rattle.std.specs.Prelude.{◌≡◌, ◌↔◌, ◌⊎◌, ◌+◌, ◌-◌, ◌^◌, ◌<◌, ◌≤◌, length, min, take, Some, IfOk, IfSome, IsErr, IsSome, OnOk, OnErr, option_map};
 ghost use Rattle.outside.specs.Causes.{HasCause};
-ghost use Rattle.outside.specs.Files.{Appends, KeepsFront, Reads, Sizes, bytes_of};
+ghost use Rattle.outside.specs.Files.{Appends, KeepsFront, ReadsBytes, Sizes, bytes_of};
 ghost use Rattle.outside.specs.Script.{kept_by};
 ghost use Rattle.std.specs.FinMap as map;
 
@@ -111,7 +111,7 @@ impl Store for MemStore {
         requires some { 0 < length into.old }
         requires page { length into.old ≤ 4096 }
         ensures bound { IfOk result (λ n. n ≤ length into.new) }
-        ensures bytes { Reads (Some self.old.files) file at result into.new }
+        ensures bytes { ReadsBytes (Some self.old.files) file at result into.new }
         ensures files { self.new.files ≡ self.old.files }
         ensures reads { self.new.reads ≡ min (self.old.reads + 1) (2 ^ 64 - 1) }
         ensures cause { HasCause self.old.faults self.new.faults result }

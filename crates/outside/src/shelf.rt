@@ -1,7 +1,7 @@
 //! Files in memory, by name.
 ghost use Rattle.std.specs.Prelude.{◌≡◌, ◌+◌, ◌<◌, ◌≤◌, ◌^◌, ◌++◌, ◌↔◌, ◌⊎◌, length, take, drop, min, Some, IfOk, IfSome, IsErr, IsSome, IsTrue, OnOk, OnErr, option_map};
 ghost use Rattle.std.specs.FinMap as map;
-ghost use Rattle.outside.specs.Files.{bytes_of, files_of, KeepsFront, LeavesPrefix, Reads, Sizes};
+ghost use Rattle.outside.specs.Files.{bytes_of, files_of, KeepsFront, LeavesPrefix, ReadsBytes, Sizes};
 
 use crate::file_bytes::FileBytes;
 use crate::store::FileId;
@@ -125,7 +125,7 @@ pub fn read(
     fails: bool,
 ) -> Result<usize, Failed>
     ensures bound { IfOk result (λ n. n ≤ length into.new) }
-    ensures bytes { Reads (Some (files_of files.now)) file at result into.new }
+    ensures bytes { ReadsBytes (Some (files_of files.now)) file at result into.new }
     ensures scripted { IsErr result ↔ (IsTrue fails ⊎ (2 ^ 62 ≤ length (bytes_of (files_of files.now) file))) }
 {
     let bytes = bytes_of(files, file);

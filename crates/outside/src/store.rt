@@ -1,7 +1,7 @@
 //! Files by generation and part, and the trait of all stores of them, whose contract the crates above use.
 ghost use Rattle.std.specs.Prelude.{◌≡◌, ◌<◌, ◌≤◌, ◌^◌, ◌+◌, ◌-◌, length, List, ℕ, Option, IfOk, IsNone, ◌↔◌, min};
 ghost use Rattle.outside.specs.Causes.{HasCause};
-ghost use Rattle.outside.specs.Files.{file_cmp, place_of, Appends, Reads, Sizes};
+ghost use Rattle.outside.specs.Files.{file_cmp, place_of, Appends, ReadsBytes, Sizes};
 ghost use Rattle.std.specs.FinMap as map;
 
 use crate::stream::Failed;
@@ -113,7 +113,7 @@ pub trait Store {
         requires some { 0 < length into.old }
         requires page { length into.old ≤ 4096 }
         ensures bound { IfOk result (λ n. n ≤ length into.new) }
-        ensures bytes { Reads (files self.old) file at result into.new }
+        ensures bytes { ReadsBytes (files self.old) file at result into.new }
         ensures files { files self.new ≡ files self.old }
         ensures reads { reads self.new ≡ min (reads self.old + 1) (2 ^ 64 - 1) }
         ensures cause { HasCause (faults self.old) (faults self.new) result };

@@ -2,7 +2,7 @@
 use Rattle.std.proofs.Common.{◌≡◌, ℕ, ◌+◌, ◌-◌, ◌*◌, ◌/◌, ◌^◌, ◌≤◌, List, [], ◌∷◌, ◌++◌, length, slice_index, replicate, set, refl, sym, ap, ◌∙◌, subst, arith, append_assoc, length-append, length-set, get_or-set_same, Vec, Global}
 use Rattle.std.specs.Vec.{with_items}
 use Rattle.std.proofs.lemmas.List.{get_or-replicate, with_items_is}
-use Rattle.cell_layout.specs.Words.{AreBytes}
+use Rattle.cell_layout.specs.Words.{ItemsAreBytes}
 use Rattle.trie_image.specs.declared.Put.{Put}
 use Rattle.trie_image.specs.declared.Owner.{Owner}
 use Rattle.trie_image.specs.declared.StoreKind.TheVariants.{Finish}
@@ -15,15 +15,15 @@ use Rattle.trie_image.specs.Publish.{put_at, with_put}
 use Rattle.trie_image.specs.NextStore.{Does, IsPublishStore, IsFinishStore, IsNextStore}
 use Rattle.trie_image.proofs.Stored.{length-after}
 use Rattle.trie_image.proofs.PublicLaws.{law_opening, law_same, law_shape, law_next_store}
-use Rattle.owned_image.specs.Held.{Held, Holds, Takes, Puts}
+use Rattle.owned_image.specs.Held.{Held, HoldsPuts, TakesPut, PutsOne}
 
 -- word 0 of the zeros
 first_zero : (cells : ℕ) → 1 ≤ cells → slice_index (replicate (4 * cells) 0) 0 ≡ 0
 first_zero cells least = get_or-replicate (4 * cells) 0 0 0 (omega arith)
 
 -- an image of zeros holds no put
-pub opens : (words : List ℕ) (cells : ℕ) → 1 ≤ cells → cells ≤ 2 ^ 22 → words ≡ replicate (4 * cells) 0 → Holds record { words = words; used = 1 } []
-opens words cells least most zeros = subst (λ (w : List ℕ). Holds record { words = w; used = 1 } []) (sym zeros) record {
+pub opens : (words : List ℕ) (cells : ℕ) → 1 ≤ cells → cells ≤ 2 ^ 22 → words ≡ replicate (4 * cells) 0 → HoldsPuts record { words = words; used = 1 } []
+opens words cells least most zeros = subst (λ (w : List ℕ). HoldsPuts record { words = w; used = 1 } []) (sym zeros) record {
   ledger = opening_ledger;
   cells = cells;
   image = law_opening cells least most;
@@ -32,7 +32,7 @@ opens words cells least most zeros = subst (λ (w : List ℕ). Holds record { wo
   number = first_zero cells least;
 }
 
-module _ (i : Held) (puts : List Put) (key value : List ℕ) (takes : Takes i key value) (bytes : AreBytes key) (value_bytes : AreBytes value) (holds : Holds i puts) where
+module _ (i : Held) (puts : List Put) (key value : List ℕ) (takes : TakesPut i key value) (bytes : ItemsAreBytes key) (value_bytes : ItemsAreBytes value) (holds : HoldsPuts i puts) where
   -- a put that it takes is one for its words
   pub can_put : CanPut i.words i.used key value
   can_put = record {
@@ -96,7 +96,7 @@ module _ (i : Held) (puts : List Put) (key value : List ℕ) (takes : Takes i ke
   counted = ap (λ (l : List ℕ). slice_index l 0) words_are ∙ get_or-set_same published 0 (slice_index i.words 0 + 1) 0 (omega (arith, published_size, takes.capacity))
 
   -- after them it holds the put too
-  pub put_held : Holds record { words = after i.words (stores_of i.words i.used key value); used = i.used + (length (stores_of i.words i.used key value) - 2) / 4 } (puts ++ put_at key value i.used ∷ [])
+  pub put_held : HoldsPuts record { words = after i.words (stores_of i.words i.used key value); used = i.used + (length (stores_of i.words i.used key value) - 2) / 4 } (puts ++ put_at key value i.used ∷ [])
   unfolding finish
   put_held = record {
     ledger = with_put holds.ledger next.0 (put_at key value i.used);
@@ -113,11 +113,11 @@ behind v used ws n = record { words = (with_items v ws).items; used = used + n }
 
 -- a put that is planned on the words of a vector and made in them
 module _ (v : Vec ℕ Global) {used : ℕ} {key value : List ℕ} {i : Held} {read old ws : List ℕ} {stores : List WordStore} {n : ℕ}
-    (view : record { words = v.items; used = used } ≡ i) (takes : Takes i key value) (bytes : AreBytes key) (value_bytes : AreBytes value)
+    (view : record { words = v.items; used = used } ≡ i) (takes : TakesPut i key value) (bytes : ItemsAreBytes key) (value_bytes : ItemsAreBytes value)
     (is_read : read ≡ v.items) (long : length read ≡ v.len) (planned : stores ≡ stores_of read used key value)
     (is_old : old ≡ v.items) (made : ws ≡ after old stores) (counted : n ≡ (length stores - 2) / 4) where
-  takes_before : Takes record { words = v.items; used = used } key value
-  takes_before = subst (λ (h : Held). Takes h key value) (sym view) takes
+  takes_before : TakesPut record { words = v.items; used = used } key value
+  takes_before = subst (λ (h : Held). TakesPut h key value) (sym view) takes
 
   planned_there : stores ≡ stores_of v.items used key value
   planned_there = planned ∙ ap (λ (w : List ℕ). stores_of w used key value) is_read
@@ -132,13 +132,13 @@ module _ (v : Vec ℕ Global) {used : ℕ} {key value : List ℕ} {i : Held} {re
   behind_is = ap (λ (w : List ℕ). record { words = w; used = used + (length (stores_of v.items used key value) - 2) / 4 }) (sym items_are) ∙ ap (λ (m : ℕ). record { words = (with_items v ws).items; used = used + m }) (sym (counted ∙ ap (λ (l : List WordStore). (length l - 2) / 4) planned_there))
 
   -- it holds the put too
-  pub holds_more : (puts : List Put) → Holds record { words = v.items; used = used } puts → Holds (behind v used ws n) (puts ++ put_at key value used ∷ [])
-  holds_more puts holds = subst (λ (h : Held). Holds h (puts ++ put_at key value used ∷ [])) behind_is (put_held record { words = v.items; used = used } puts key value takes_before bytes value_bytes holds)
+  pub holds_more : (puts : List Put) → HoldsPuts record { words = v.items; used = used } puts → HoldsPuts (behind v used ws n) (puts ++ put_at key value used ∷ [])
+  holds_more puts holds = subst (λ (h : Held). HoldsPuts h (puts ++ put_at key value used ∷ [])) behind_is (put_held record { words = v.items; used = used } puts key value takes_before bytes value_bytes holds)
 
   -- and its number of cells is in range
-  pub used_fits : (puts : List Put) → Holds record { words = v.items; used = used } puts → used + n ≤ 2 ^ 22
+  pub used_fits : (puts : List Put) → HoldsPuts record { words = v.items; used = used } puts → used + n ≤ 2 ^ 22
   used_fits puts holds = let h = holds_more puts holds in omega (arith, h.taken, h.image.image.capacity, h.image.image.small)
 
   -- so the put is made
-  pub puts_it : Puts i (behind v used ws n) key value
-  puts_it = subst (λ (h : Held). Puts h (behind v used ws n) key value) view (record { stores = items_are; added = holds_more })
+  pub puts_it : PutsOne i (behind v used ws n) key value
+  puts_it = subst (λ (h : Held). PutsOne h (behind v used ws n) key value) view (record { stores = items_are; added = holds_more })

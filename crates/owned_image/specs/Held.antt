@@ -13,7 +13,7 @@ pub record Held : Type 0 where
   pub used : ℕ
 
 -- the image is well formed for these puts, and counts its cells and its puts
-pub record Holds (i : Held) (puts : List Put) : Type 0 where
+pub record HoldsPuts (i : Held) (puts : List Put) : Type 0 where
   pub ledger : Ledger
   pub cells : ℕ
   pub image : IsWellFormed i.words ledger cells
@@ -23,16 +23,16 @@ pub record Holds (i : Held) (puts : List Put) : Type 0 where
 
 -- it does so for some puts
 abbrev pub HasPuts : Held → Type 0
-HasPuts i = (puts : List Put) × Holds i puts
+HasPuts i = (puts : List Put) × HoldsPuts i puts
 
 -- the limits of key and value hold, and there is room for the put's cost
-pub record Takes (i : Held) (key value : List ℕ) : Type 0 where
+pub record TakesPut (i : Held) (key value : List ℕ) : Type 0 where
   pub least : 1 ≤ length key
   pub most : length key ≤ 2048
   pub short : length value ≤ 65535
   pub capacity : 4 * (i.used + cost (length key) (length value)) ≤ length i.words
 
 -- after a put the words are those after its stores, and the puts have it at their end
-pub record Puts (i i' : Held) (key value : List ℕ) : Type 0 where
+pub record PutsOne (i i' : Held) (key value : List ℕ) : Type 0 where
   pub stores : i'.words ≡ after i.words (stores_of i.words i.used key value)
-  pub added : (puts : List Put) → Holds i puts → Holds i' (puts ++ put_at key value i.used ∷ [])
+  pub added : (puts : List Put) → HoldsPuts i puts → HoldsPuts i' (puts ++ put_at key value i.used ∷ [])

@@ -7,7 +7,7 @@
 ghost use Rattle.std.specs.Prelude.{◌≡◌, ◌↔◌, ℕ, ◌*◌, ◌≤◌, ◌<◌, ◌^◌, List, [], length, IsTrue, IfOk};
 ghost use Rattle.trie_image.specs.declared.Put.{Put};
 ghost use Rattle.trie_image.specs.Puts.{HasLastPut};
-ghost use Rattle.owned_image.specs.Held.{Holds, Takes, Puts};
+ghost use Rattle.owned_image.specs.Held.{HoldsPuts, TakesPut, PutsOne};
 
 use key_types::NoMemory;
 use std::alloc::Global;
@@ -43,7 +43,7 @@ impl Image {
     pub fn new(alloc: Global, cells: u32) -> Result<Image, NoMemory>
         requires least { 1 ≤ cells }
         requires most { cells ≤ 2 ^ 22 }
-        ensures puts { IfOk result (λ image. Holds image []) }
+        ensures puts { IfOk result (λ image. HoldsPuts image []) }
         ensures words { IfOk result (λ image. length image.words ≡ 4 * cells) }
     {
         let words = vec![in alloc; 0u64; 4 * cells as usize]?;
@@ -63,7 +63,7 @@ impl Image {
 
     /// Whether the image takes a put of such a key and value: they are within their limits, and there is room for the put's cost.
     pub fn takes(&self, key: &[u8], value: &[u8]) -> bool
-        ensures { IsTrue result ↔ Takes self.now key.now value.now }
+        ensures { IsTrue result ↔ TakesPut self.now key.now value.now }
     {
         let cells = self.words.len() / 4;
         !key.is_empty()
@@ -72,10 +72,10 @@ impl Image {
             && (self.used + cost(key.len(), value.len())) as usize <= cells
     }
 
-    /// Puts the value under the key: makes the stores of its plan in their order. It takes no memory.
+    /// PutsOne the value under the key: makes the stores of its plan in their order. It takes no memory.
     pub fn put(&mut self, key: &[u8], value: &[u8])
-        requires { Takes self.old key.now value.now }
-        ensures { Puts self.old self.new key.now value.now }
+        requires { TakesPut self.old key.now value.now }
+        ensures { PutsOne self.old self.new key.now value.now }
     {
         let mut seat = ();
         let from = SliceWords {
@@ -89,7 +89,7 @@ impl Image {
     /// The record of the key's last put, or None where no put has the key.
     pub fn lookup(&self, key: &[u8]) -> Option<Rec>
         requires { length key.now < 2 ^ 32 }
-        ensures { (puts : List Put) → Holds self.now puts → HasLastPut puts key.now result }
+        ensures { (puts : List Put) → HoldsPuts self.now puts → HasLastPut puts key.now result }
     {
         lookup(self.words.as_slice(), key)
     }

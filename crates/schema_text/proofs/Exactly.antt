@@ -3,7 +3,7 @@ use Rattle.std.proofs.Common.{◌≡◌, ℕ, zero, suc, ◌==◌, Bool, true, f
 use Rattle.std.specs.Prelude.{codes}
 use Rattle.std.proofs.lemmas.Bool.Decides.{nat_tests}
 use Rattle.key_types.specs.Kinds.{Kind, int, tuple, Kinds, end, more}
-use Rattle.grammar.specs.Exact.{Read, Exact, Begins}
+use Rattle.grammar.specs.Exact.{Read, Exact, NextIs}
 use Rattle.grammar.specs.Reading.{then_read, Then, is_letter, AfterGap, map_read, Mapped, ends, IsEnd, token, IsToken, sign_at, IsSign, NoSpace}
 use Rattle.grammar.proofs.Octets.{are_bytes}
 use Rattle.grammar.proofs.Bind.{bind_exact}
@@ -82,7 +82,7 @@ reversed_exact = map_exact Some (token true (codes "reversed")) (IsToken (codes 
 weaken : Exact {A = Option Bool} (ends is_r None) (IsEnd None) (λ _ b. is_r b ≡ false) → Exact {A = Option Bool} (ends is_r None) (IsEnd None) AfterTurn
 weaken one = record {
   found = one.found;
-  all = λ o front rest is h. one.all o front rest is (subst (λ (x : Option Bool). Begins (AfterTurn x) rest → Begins (λ b. is_r b ≡ false) rest) (sym is.0) (λ k. k) h);
+  all = λ o front rest is h. one.all o front rest is (subst (λ (x : Option Bool). NextIs (AfterTurn x) rest → NextIs (λ b. is_r b ≡ false) rest) (sym is.0) (λ k. k) h);
   next = λ bytes o b bs h.
       let p = one.found bytes o (b ∷ bs) h in
       subst (λ (x : Option Bool). AfterTurn x b) (sym p.2.0) (one.next bytes o b bs h);
@@ -113,16 +113,16 @@ closing_exact x = bind_exact (turn_at x.1) (λ o. ends no_type_end (type_with o 
     (turn_exact x.1) (λ o. ends_exact no_type_end (type_with o x.0)) (λ o. end_text (type_with o x.0))
     (λ o k bytes rest is h. empty_begins (AfterTurn o) bytes rest is.1 (begins_as (λ b. no_type_end b ≡ false) (AfterTurn o) (turn_end o) rest h))
 
-turn_begins : (s : Bool) (o : Option Bool) (front after : List ℕ) → IsTurn s o front → Begins (AfterGap true s) after → Begins (AfterGap true s) (front ++ after)
-turn_begins true o front after (inl is) h = let p = token_heads (codes "reversed") is.0 front is.1 in subst (λ (l : List ℕ). Begins (AfterGap true true) (l ++ after)) (sym p.1) refl
+turn_begins : (s : Bool) (o : Option Bool) (front after : List ℕ) → IsTurn s o front → NextIs (AfterGap true s) after → NextIs (AfterGap true s) (front ++ after)
+turn_begins true o front after (inl is) h = let p = token_heads (codes "reversed") is.0 front is.1 in subst (λ (l : List ℕ). NextIs (AfterGap true true) (l ++ after)) (sym p.1) refl
 turn_begins true o front after (inr is) h = empty_begins (AfterGap true true) front after is.1 h
 turn_begins false o front after is h = empty_begins (AfterGap true false) front after is.1 h
 
-closing_begins : (x : Kind × Bool) (t : Kind) (bytes rest : List ℕ) → IsClosing x t bytes → Begins (AfterKind t) rest → Begins (AfterWord x) (bytes ++ rest)
+closing_begins : (x : Kind × Bool) (t : Kind) (bytes rest : List ℕ) → IsClosing x t bytes → NextIs (AfterKind t) rest → NextIs (AfterWord x) (bytes ++ rest)
 closing_begins x t bytes rest is h =
     let ending = empty_begins (AfterWord x) is.2 rest is.4.1 (begins_as (λ b. no_type_end b ≡ false) (AfterWord x) (gap_end x.1) rest h) in
-    subst (λ (l : List ℕ). Begins (AfterWord x) (l ++ rest)) (sym is.5)
-    (subst (λ (l : List ℕ). Begins (AfterWord x) l) (sym (append_assoc is.1 is.2 rest)) (turn_begins x.1 is.0 is.1 (is.2 ++ rest) is.3 ending))
+    subst (λ (l : List ℕ). NextIs (AfterWord x) (l ++ rest)) (sym is.5)
+    (subst (λ (l : List ℕ). NextIs (AfterWord x) l) (sym (append_assoc is.1 is.2 rest)) (turn_begins x.1 is.0 is.1 (is.2 ++ rest) is.3 ending))
 
 pub kind_exact : (base : Read (Kind × Bool)) (Base : Kind × Bool → List ℕ → Type 0) → Exact base Base AfterWord → Exact (kind_by base) (IsKindBy Base) AfterKind
 kind_exact base Base one = bind_exact base (λ x. type_closing_at x.1 x.0) Base IsClosing AfterWord AfterKind
@@ -156,8 +156,8 @@ more_end : (o : Option Kinds) (b : ℕ) → no_types_close b ≡ false → After
 more_end None b h = close_comma b h
 more_end (Some ts) b h = h
 
-comma_begins : (t : Kind) (Types : Kinds → List ℕ → Type 0) (o : Option Kinds) (front after : List ℕ) → IsMoreBy Types o front → Begins (AfterKind t) after → Begins (AfterKind t) (front ++ after)
-comma_begins t Types o front after (inl is) h = let w = is.1 in subst (λ (l : List ℕ). Begins (AfterKind t) (l ++ after)) (sym (w.5 ∙ ap (λ l. l ++ w.2) w.3.1)) refl
+comma_begins : (t : Kind) (Types : Kinds → List ℕ → Type 0) (o : Option Kinds) (front after : List ℕ) → IsMoreBy Types o front → NextIs (AfterKind t) after → NextIs (AfterKind t) (front ++ after)
+comma_begins t Types o front after (inl is) h = let w = is.1 in subst (λ (l : List ℕ). NextIs (AfterKind t) (l ++ after)) (sym (w.5 ∙ ap (λ l. l ++ w.2) w.3.1)) refl
 comma_begins t Types o front after (inr is) h = empty_begins (AfterKind t) front after is.1 h
 
 behind_exact : (types : Read Kinds) (Types : Kinds → List ℕ → Type 0) (t : Kind) → Exact types Types AfterKinds → Heads Letter Types → HasText Types → Exact (behind_by types t) (IsBehind Types t) AfterKinds
@@ -165,11 +165,11 @@ behind_exact types Types t one heads some = bind_exact (more_by types) (λ o. en
     (more_exact types Types one heads some) (λ o. ends_exact no_types_close (listed t o)) (λ o. end_text (listed t o))
     (λ o ks bytes rest is h. empty_begins (AfterMore o) bytes rest is.1 (begins_as (λ b. no_types_close b ≡ false) (AfterMore o) (more_end o) rest h))
 
-behind_begins : (Types : Kinds → List ℕ → Type 0) (t : Kind) (ts : Kinds) (bytes rest : List ℕ) → IsBehind Types t ts bytes → Begins (AfterKinds ts) rest → Begins (AfterKind t) (bytes ++ rest)
+behind_begins : (Types : Kinds → List ℕ → Type 0) (t : Kind) (ts : Kinds) (bytes rest : List ℕ) → IsBehind Types t ts bytes → NextIs (AfterKinds ts) rest → NextIs (AfterKind t) (bytes ++ rest)
 behind_begins Types t ts bytes rest is h =
     let ending = empty_begins (AfterKind t) is.2 rest is.4.1 (begins_as (λ b. no_types_close b ≡ false) (AfterKind t) close_end rest h) in
-    subst (λ (l : List ℕ). Begins (AfterKind t) (l ++ rest)) (sym is.5)
-    (subst (λ (l : List ℕ). Begins (AfterKind t) l) (sym (append_assoc is.1 is.2 rest)) (comma_begins t Types is.0 is.1 (is.2 ++ rest) is.3 ending))
+    subst (λ (l : List ℕ). NextIs (AfterKind t) (l ++ rest)) (sym is.5)
+    (subst (λ (l : List ℕ). NextIs (AfterKind t) l) (sym (append_assoc is.1 is.2 rest)) (comma_begins t Types is.0 is.1 (is.2 ++ rest) is.3 ending))
 
 behind_text : (Types : Kinds → List ℕ → Type 0) (t : Kind) → HasText (IsBehind Types t)
 behind_text Types t = (listed t None, [], (None, [], [], inr (refl, refl), (refl, refl), refl), tt)

@@ -14,7 +14,7 @@ use Rattle.grammar.proofs.Tokens.{ends_exact}
 use Rattle.grammar.proofs.Choices.{AfterWord, one_of_exact, spaces_exact}
 use Rattle.grammar.proofs.Signs.{sign_exact, next_exact, Heads, sign_heads, then_heads, map_heads, heads_begin, begins_as, empty_begins, HasText, sign_text, token_text, end_text, map_text, then_text}
 use Rattle.key_types.specs.Columns.{Columns}
-use Rattle.schema_text.specs.Reading.{no_type_end, no_types_close, types_at, is_semicolon, closed_at, clustering_at, value_word_at, value_type_at, static_type_at, columns, behind_partition, columns_at}
+use Rattle.schema_text.specs.Reading.{no_type_end, no_types_close, types_at, is_semicolon, closed_at, clustering_at, value_type_word_at, value_type_at, static_type_at, columns, behind_partition, columns_at}
 use Rattle.schema_text.proofs.Relation.{first_value, other_values, IsValue, IsLast, IsStaticValue, IsStatic, IsClosed, IsClustering, IsTypes, IsEnding, IsBehindPartition, IsColumns}
 use Rattle.schema_text.proofs.Exactly.{gap_end, Letter, as_letters, AfterKinds, token_letter, types_heads, types_text, types_exact}
 
@@ -27,7 +27,7 @@ abbrev AfterValue : ValueType → ℕ → Type 0
 AfterValue _ b = no_type_end b ≡ false
 
 value_exact : Exact value_type_at IsValue AfterValue
-value_exact = bind_exact value_word_at (λ x. ends no_type_end x.0) (IsOneOf first_value other_values) (λ x. IsEnd x.0) AfterWord AfterValue
+value_exact = bind_exact value_type_word_at (λ x. ends no_type_end x.0) (IsOneOf first_value other_values) (λ x. IsEnd x.0) AfterWord AfterValue
     (one_of_exact first_value other_values (are_bytes (codes "text") refl, are_bytes (codes "blob") refl) refl) (λ x. ends_exact no_type_end x.0) (λ x. end_text x.0)
     (λ x v bytes rest is h. empty_begins (AfterWord x) bytes rest is.1 (begins_as (λ b. no_type_end b ≡ false) (AfterWord x) (gap_end x.1) rest h))
 

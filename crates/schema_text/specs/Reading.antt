@@ -90,12 +90,12 @@ abbrev pub clustering_at : ℕ → Read Kinds
 clustering_at fuel = by_first is_semicolon (map_read (λ _. end) (sign_at 59)) (closed_at fuel)
 
 -- the word of a value type, and whether spaces stand behind it
-abbrev pub value_word_at : Read (ValueType × Bool)
-value_word_at = one_of (codes "text", Text) ((codes "blob", Blob) ∷ [])
+abbrev pub value_type_word_at : Read (ValueType × Bool)
+value_type_word_at = one_of (codes "text", Text) ((codes "blob", Blob) ∷ [])
 
 -- a value type, and what may stand behind it
 abbrev pub value_type_at : Read ValueType
-value_type_at = then_read value_word_at (λ x. ends no_type_end x.0)
+value_type_at = then_read value_type_word_at (λ x. ends no_type_end x.0)
 
 -- perhaps a static value type behind a semicolon, and the last sign
 abbrev pub static_type_at : Read (Option ValueType)

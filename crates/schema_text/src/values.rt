@@ -2,7 +2,7 @@
 ghost use Rattle.std.specs.Prelude.{◌≡◌, ⊤};
 ghost use Rattle.grammar.specs.Code.{Gives};
 ghost use Rattle.grammar.specs.Reading.{one_of, ends};
-ghost use Rattle.schema_text.specs.Reading.{value_word_at, value_type_at, static_type_at, no_type_end};
+ghost use Rattle.schema_text.specs.Reading.{value_type_word_at, value_type_at, static_type_at, no_type_end};
 
 use grammar::{Stop, further, read_sign, read_word};
 use key_types::ValueType;
@@ -19,7 +19,7 @@ pub fn type_ends(bytes: &[u8]) -> Result<&[u8], Stop>
 
 /// The word of a value type, and whether spaces stand behind it.
 fn read_value_word(bytes: &[u8]) -> Result<(ValueType, bool, &[u8]), Stop>
-    ensures { Gives (λ x. ((x.0, x.1), x.2.now)) result (value_word_at bytes.now) }
+    ensures { Gives (λ x. ((x.0, x.1), x.2.now)) result (value_type_word_at bytes.now) }
 {
     match read_word(b"text", bytes) {
         Ok((spaced, rest)) => Ok((ValueType::Text, spaced, rest)),

@@ -19,7 +19,7 @@ use Rattle.script_text.specs.Lines.{lines_of}
 use Rattle.script_text.specs.Grammar.{PutText, value_kind, IsTypeOf, RowFits, PutFits}
 use Rattle.script_text.specs.Reading.{line_of}
 use Rattle.script_text.specs.Script.{◌>>=◌, key_of, row_key, value_bytes, short_value, put_of, some_put, put_on, at_line, in_front, with_rest, puts_from, one_batch, script_of, puts_of}
-use Rattle.script_text.specs.Laws.{IsKey, IsSchemaPut, ArePuts, IsAccepted}
+use Rattle.script_text.specs.Laws.{IsKeyString, IsSchemaPut, ArePuts, IsAccepted}
 use Rattle.script_text.proofs.Told.{line_fits}
 
 -- what two steps answer
@@ -33,14 +33,14 @@ steps (Err e) f b h = cc
 -- ---- keys and values
 
 key_by : (t : Bool) (ts : Kinds) (vs : Vals) (string : List ℕ) → nat_lt 1024 (length (key_string ts vs)) ≡ t → EachFits ts vs
-    → ◌≡◌ {A = Result (List ℕ) LineCause} (if t then Err (KeyTooLong (length (key_string ts vs))) else Ok (key_string ts vs)) (Ok string) → IsKey ts string
+    → ◌≡◌ {A = Result (List ℕ) LineCause} (if t then Err (KeyTooLong (length (key_string ts vs))) else Ok (key_string ts vs)) (Ok string) → IsKeyString ts string
 key_by true ts vs string e h is = cc
 key_by false ts vs string e h is =
     let same : key_string ts vs ≡ string = cc in
     let few : length (key_string ts vs) ≤ 1024 = grind (arith, nat_tests) in
     (vs, h, sym same, subst (λ (x : List ℕ). length x ≤ 1024) same few)
 
-key_is : (ts : Kinds) (vs : Vals) (string : List ℕ) → EachFits ts vs → key_of ts vs ≡ Ok string → IsKey ts string
+key_is : (ts : Kinds) (vs : Vals) (string : List ℕ) → EachFits ts vs → key_of ts vs ≡ Ok string → IsKeyString ts string
 key_is ts vs string h is = key_by (nat_lt 1024 (length (key_string ts vs))) ts vs string refl h is
 
 short_by : (t : Bool) (v value : List ℕ) → nat_lt 65535 (length v) ≡ t → ◌≡◌ {A = Result (List ℕ) LineCause} (if t then Err (ValueTooLong (length v)) else Ok v) (Ok value) → (v ≡ value) × (length v ≤ 65535)
@@ -64,7 +64,7 @@ value_is t v value h is = let p = short_by (nat_lt 65535 (length (value_bytes v)
 
 module _ (s : Columns) where
   inside_is : (cs : Option Vals) (v : Val) (line : ℕ) (partition clustering value : List ℕ) → RowFits s cs → (t : ValueType) → IsTypeOf s cs t → Fits (value_kind t) v → row_key s.clustering cs ≡ Ok clustering
-      → short_value (value_bytes v) ≡ Ok value → IsKey s.partition partition → IsSchemaPut s (record { line = line; partition = partition; clustering = clustering; value = value })
+      → short_value (value_bytes v) ≡ Ok value → IsKeyString s.partition partition → IsSchemaPut s (record { line = line; partition = partition; clustering = clustering; value = value })
   inside_is (Some cs) v line partition clustering value h t is fits key short first =
       (first, inl (key_is s.clustering cs clustering h key, value_is s.value v value (subst (λ (x : ValueType). Fits (value_kind x) v) is fits) short))
   inside_is None v line partition clustering value h t is fits key short first =

@@ -16,7 +16,7 @@ use Rattle.byte_comparable.proofs.Kept.{keys_kept}
 use Rattle.script_text.specs.Puts.{Put}
 use Rattle.script_text.specs.declared.script.Script.{Script}
 use Rattle.script_text.specs.Script.{entry_of_put, entries_of, puts_of, script_of}
-use Rattle.script_text.specs.Laws.{IsKey, IsRowPut, IsStaticPut, IsSchemaPut, ArePuts, HasKey, AreOfKeys, KeysAscend}
+use Rattle.script_text.specs.Laws.{IsKeyString, IsRowPut, IsStaticPut, IsSchemaPut, ArePuts, HasKey, AreOfKeys, KeysAscend}
 use Rattle.script_text.proofs.Accepted.{accepted_script}
 
 module _ (s : Columns) where

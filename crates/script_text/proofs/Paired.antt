@@ -1,7 +1,7 @@
 -- Readings one after the other: they are exact, and the first number that passes its type is marked.
 use Rattle.std.proofs.Common.{◌≡◌, ℕ, ◌+◌, Bool, true, false, cond, List, [], ◌∷◌, ◌++◌, length, Option, Some, None, Result, Ok, Err, refl, sym, ◌∙◌, ap, arith, subst, append_assoc, length-append}
 use Rattle.std.specs.Prelude.{⊤}
-use Rattle.grammar.specs.Exact.{Read, Exact, Begins}
+use Rattle.grammar.specs.Exact.{Read, Exact, NextIs}
 use Rattle.grammar.specs.Reading.{bind, then_read, Then, map_read, mapped, Mapped, by_first}
 use Rattle.grammar.proofs.Bind.{bind_exact}
 use Rattle.grammar.proofs.Map.{map_exact}
@@ -19,7 +19,7 @@ Both f First Second = Then First (λ a. Mapped (f a) Second)
 
 module _ {A B C : Type 0} (f : A → B → C) (r : Read A) (s : Read B) (First : A → List ℕ → Type 0) (Second : B → List ℕ → Type 0) (follow : A → ℕ → Type 0) (after : ℕ → Type 0)
     (one : Exact r First follow) (two : Exact s Second (λ _. after)) (some : HasText Second)
-    (starts : (a : A) (b : B) (bs rest : List ℕ) → Second b bs → Begins (follow a) (bs ++ rest)) where
+    (starts : (a : A) (b : B) (bs rest : List ℕ) → Second b bs → NextIs (follow a) (bs ++ rest)) where
   pub both_exact : Exact (both f r s) (Both f First Second) (λ _. after)
   both_exact = bind_exact r (λ a. map_read (f a) s) First (λ a. Mapped (f a) Second) follow (λ _. after) one
       (λ a. map_exact (f a) s Second (λ _. after) (λ _. after) two (λ b c h. h) (λ b c h. h)) (λ a. map_text (f a) Second some) (λ a c bs rest is h. starts a is.0 bs rest is.1)

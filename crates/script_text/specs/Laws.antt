@@ -39,12 +39,12 @@ pub record ReadsLines : Type 0 where
 -- ---- puts
 
 -- the string of some components that fit, which isn't too long
-abbrev pub IsKey : Kinds → List ℕ → Type 0
-IsKey ts string = (vs : Vals) × EachFits ts vs × (string ≡ key_string ts vs) × (length string ≤ longest_string)
+abbrev pub IsKeyString : Kinds → List ℕ → Type 0
+IsKeyString ts string = (vs : Vals) × EachFits ts vs × (string ≡ key_string ts vs) × (length string ≤ longest_string)
 
 -- a put of a row: its strings are keys, and the value is of the type of rows
 abbrev pub IsRowPut : Columns → Put → Type 0
-IsRowPut s put = IsKey s.clustering put.clustering × IsValueOf s.value put.value
+IsRowPut s put = IsKeyString s.clustering put.clustering × IsValueOf s.value put.value
 
 -- a put of a static value, which there is a type for: the string within the partition is empty
 abbrev pub IsStaticPut : Columns → Put → Type 0
@@ -52,7 +52,7 @@ IsStaticPut s put = (t : ValueType) × (s.static_value ≡ Some t) × (put.clust
 
 -- a put under a schema
 abbrev pub IsSchemaPut : Columns → Put → Type 0
-IsSchemaPut s put = IsKey s.partition put.partition × (IsRowPut s put ⊎ IsStaticPut s put)
+IsSchemaPut s put = IsKeyString s.partition put.partition × (IsRowPut s put ⊎ IsStaticPut s put)
 
 -- all are puts under a schema
 abbrev pub ArePuts : Columns → List Put → Type 0

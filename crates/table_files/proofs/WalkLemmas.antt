@@ -2,7 +2,7 @@
 use Rattle.std.proofs.Common.{◌≡◌, ℕ, ◌+◌, List, [], ◌∷◌, ◌++◌, length, None, Some, refl, ap, ◌∙◌, sym, subst, append_assoc}
 use Rattle.key_types.specs.Columns.{Columns}
 use Rattle.key_types.specs.Table.{Entry}
-use Rattle.data_file.specs.Listing.{AreRows, ArePartitions, Partition, Row, data_bytes, end_bytes, fixed_bytes, head_bytes, partition_bytes, row_bytes, rows_bytes}
+use Rattle.data_file.specs.Listing.{AreRows, ArePartitions, Partition, Row, data_bytes, end_bytes, static_part_bytes, head_bytes, partition_bytes, row_bytes, rows_bytes}
 use Rattle.table_files.specs.Standing.{Holds, entries_in, row_entries}
 use Rattle.table_files.specs.Walk.{Walks}
 use Rattle.table_files.specs.Walk as walks
@@ -23,12 +23,12 @@ module _ (columns : Columns) where
 
   partitions_walk : (partitions : List Partition) → ArePartitions columns partitions → (at : ℕ) → Walks columns None at (data_bytes columns.static_value partitions) (entries_in partitions) None
   partitions_walk [] are at = walks.ends at
-  partitions_walk (p ∷ partitions) (is, fixed, rows, are) at =
+  partitions_walk (p ∷ partitions) (is, static_part, rows, are) at =
       let tail : List ℕ = data_bytes columns.static_value partitions in
-      let front : List ℕ = head_bytes p.key ++ fixed_bytes columns.static_value p.fixed in
+      let front : List ℕ = head_bytes p.key ++ static_part_bytes columns.static_value p.static_part in
       let behind : List ℕ = (rows_bytes p.rows ++ end_bytes) ++ tail in
-      walks.head at p.key p.fixed (partition_bytes columns.static_value p ++ tail) behind (row_entries p.key p.rows ++ entries_in partitions) None is fixed
-      (parts_in (head_bytes p.key) (fixed_bytes columns.static_value p.fixed) (rows_bytes p.rows ++ end_bytes) tail)
+      walks.head at p.key p.static_part (partition_bytes columns.static_value p ++ tail) behind (row_entries p.key p.rows ++ entries_in partitions) None is static_part
+      (parts_in (head_bytes p.key) (static_part_bytes columns.static_value p.static_part) (rows_bytes p.rows ++ end_bytes) tail)
       (rows_walk p.rows p.key tail (entries_in partitions) rows (partitions_walk partitions are) (at + length front))
 
   -- the walk over a file that holds entries

@@ -25,7 +25,7 @@ row_entries key (row ∷ rows) = (key ++ row.clustering, row.value) ∷ row_entr
 abbrev pub entries_in : List Partition → List Entry
 entries_in [] = []
 entries_in (partition ∷ partitions) =
-    static_entries partition.key partition.fixed ++ (row_entries partition.key partition.rows ++ entries_in partitions)
+    static_entries partition.key partition.static_part ++ (row_entries partition.key partition.rows ++ entries_in partitions)
 
 -- each string is above the one before
 abbrev pub StringsAscend : List (List ℕ) → Type 0
@@ -37,7 +37,7 @@ StringsAscend (string ∷ next ∷ strings) = (string_cmp string next ≡ Less) 
 abbrev pub RowsAscend : List Partition → Type 0
 RowsAscend [] = Unit {0}
 RowsAscend (partition ∷ partitions) =
-    (partition.fixed ≡ None → partition.rows ≢ []) × StringsAscend (map (λ row. row.clustering) partition.rows) × RowsAscend partitions
+    (partition.static_part ≡ None → partition.rows ≢ []) × StringsAscend (map (λ row. row.clustering) partition.rows) × RowsAscend partitions
 
 -- ---- the files
 

@@ -6,8 +6,8 @@ use Rattle.bti_nodes.specs.declared.damage.Damage.{Damage}
 use Rattle.data_file.specs.Answers.{damage_at}
 use Rattle.key_types.specs.Columns.{Columns}
 use Rattle.key_decode.specs.Strings.{IsStringOf}
-use Rattle.data_file.specs.Listing.{head_bytes, fixed_bytes, row_bytes, IsFixed, IsRow}
-use Rattle.data_file.specs.Reading.{NoHead, NoFixed, NoRow}
+use Rattle.data_file.specs.Listing.{head_bytes, static_part_bytes, row_bytes, FitsStaticType, IsRow}
+use Rattle.data_file.specs.Reading.{NoHead, NoStaticPart, NoRow}
 use Rattle.table_files.specs.Standing.{static_entries}
 
 -- From a place of a data file on, between partitions or inside the partition of a key, the bytes that are left give these entries in order,
@@ -18,13 +18,13 @@ pub data Walks (columns : Columns) : Option (List ℕ) → ℕ → List ℕ → 
   -- no head of a partition
   bad_head : (at : ℕ) (bytes : List ℕ) → bytes ≢ [] → NoHead columns bytes → Walks columns None at bytes [] (Some (damage_at at BadHead))
   -- the head of a partition with its static part, and then what stands in it
-  head : (at : ℕ) (key : List ℕ) (fixed : Option (List ℕ)) (bytes rest : List ℕ) (entries : List Entry) (stop : Option Damage) → IsStringOf columns.partition key
-      → IsFixed columns.static_value fixed → bytes ≡ (head_bytes key ++ fixed_bytes columns.static_value fixed) ++ rest
-      → Walks columns (Some key) (at + length (head_bytes key ++ fixed_bytes columns.static_value fixed)) rest entries stop
-      → Walks columns None at bytes (static_entries key fixed ++ entries) stop
+  head : (at : ℕ) (key : List ℕ) (static_part : Option (List ℕ)) (bytes rest : List ℕ) (entries : List Entry) (stop : Option Damage) → IsStringOf columns.partition key
+      → FitsStaticType columns.static_value static_part → bytes ≡ (head_bytes key ++ static_part_bytes columns.static_value static_part) ++ rest
+      → Walks columns (Some key) (at + length (head_bytes key ++ static_part_bytes columns.static_value static_part)) rest entries stop
+      → Walks columns None at bytes (static_entries key static_part ++ entries) stop
   -- a head, in a table with a static type, and no static part behind it
-  bad_fixed : (at : ℕ) (key bytes rest : List ℕ) → IsStringOf columns.partition key → IsSome columns.static_value → bytes ≡ head_bytes key ++ rest
-      → NoFixed columns rest → Walks columns None at bytes [] (Some (damage_at (at + length (head_bytes key)) BadRow))
+  bad_static_part : (at : ℕ) (key bytes rest : List ℕ) → IsStringOf columns.partition key → IsSome columns.static_value → bytes ≡ head_bytes key ++ rest
+      → NoStaticPart columns rest → Walks columns None at bytes [] (Some (damage_at (at + length (head_bytes key)) BadRow))
   -- a row of the partition
   row : (at : ℕ) (key clustering value bytes rest : List ℕ) (entries : List Entry) (stop : Option Damage) → IsRow columns clustering value
       → bytes ≡ row_bytes clustering value ++ rest → Walks columns (Some key) (at + length (row_bytes clustering value)) rest entries stop

@@ -9,15 +9,12 @@ ghost use Rattle.table_files.specs.SchemaFile.{ReadsSchemaFile, schema_file_text
 use crate::error::FileError;
 use crate::names::schema_id;
 use key_types::{ByteList, NoMemory, Schema, ValueType};
-use outside::Store;
+use outside::{PAGE, Store};
 use schema_text::{read_canonical, write_schema};
 use std::alloc::Global;
 
 /// How many bytes the first line has.
 const LINE: usize = 12;
-
-/// The greatest length of the file, 4,017, is below this.
-const PAGE: usize = 4096;
 
 /// What stands behind the schema.
 const END: &[u8] = b"\nend\n";
@@ -84,6 +81,7 @@ pub fn read_schema<K: Store>(
     ensures later { K.faults store.old ≤ K.faults store.new }
     ensures fault { result ≡ Err FileError.StoreFault → Rose (K.faults store.old) (K.faults store.new) }
 {
+    // The greatest length of the file, 4,017, is below a page's.
     let mut page = [0u8; PAGE];
     let count = store.read(schema_id(generation), 0, &mut page)?;
     Ok(read_schema_text(alloc, &page[..count])?)

@@ -8,9 +8,9 @@ use Rattle.key_types.specs.Table.{Entry}
 use Rattle.key_types.specs.declared.schema.ValueType.{ValueType}
 use Rattle.key_types.specs.declared.schema.ValueType.TheVariants.{Text, Blob}
 use Rattle.key_decode.proofs.Known.{string_length}
-use Rattle.data_file.specs.Listing.{Partition, IsFixed, data_bytes, head_bytes, fixed_bytes, row_bytes, rows_bytes, end_bytes}
+use Rattle.data_file.specs.Listing.{Partition, FitsStaticType, data_bytes, head_bytes, static_part_bytes, row_bytes, rows_bytes, end_bytes}
 use Rattle.table_tool.specs.Entries.{clustering_in, partition_in, is_row, row_count}
-use Rattle.table_tool.specs.Grouping.{IsBehind, IsTableEntry, AreTableEntries, alone, with_entry, joined, grouped, fixed_by, fixed_in, rows_in, rows_by, begun_at, before_row, end_behind, row_at, written_row}
+use Rattle.table_tool.specs.Grouping.{IsBehind, IsTableEntry, AreTableEntries, alone, with_entry_before, joined, grouped, static_part_by, static_part_in, rows_in, rows_by, begun_at, before_row, end_behind, row_at, written_row}
 
 -- ---- what is left to write
 
@@ -62,36 +62,36 @@ other_key x y h = by (pointwise nat_eq x y) refl
 module _ (columns : Columns) (static : Option ValueType) (e : Entry) where
   -- what stands before its row where it begins its partition
   abbrev opened : List ℕ
-  opened = head_bytes (partition_in columns e.0) ++ fixed_bytes static (fixed_in columns e)
+  opened = head_bytes (partition_in columns e.0) ++ static_part_bytes static (static_part_in columns e)
 
   abbrev row : List ℕ
   row = written_row (clustering_in columns e.0) e.1
 
   begun_by : (t : Bool) (p : Partition) (ps : List Partition) → pointwise nat_eq p.key (partition_in columns e.0) ≡ t
-      → data_bytes static (if t then with_entry columns e p ∷ ps else alone columns e ∷ p ∷ ps)
+      → data_bytes static (if t then with_entry_before columns e p ∷ ps else alone columns e ∷ p ∷ ps)
       ≡ opened ++ (row ++ (if t then rows_bytes p.rows ++ (end_bytes ++ data_bytes static ps) else end_bytes ++ data_bytes static (p ∷ ps)))
   begun_by true p ps t =
       let same : p.key ≡ partition_in columns e.0 = same_text p.key (partition_in columns e.0) (sym t) in
-      ap (λ (k : List ℕ). (head_bytes k ++ (fixed_bytes static (fixed_in columns e) ++ (rows_bytes (rows_in columns e ++ p.rows) ++ end_bytes))) ++ data_bytes static ps) same
-      ∙ ap (λ (rs : List ℕ). (head_bytes (partition_in columns e.0) ++ (fixed_bytes static (fixed_in columns e) ++ (rs ++ end_bytes))) ++ data_bytes static ps)
+      ap (λ (k : List ℕ). (head_bytes k ++ (static_part_bytes static (static_part_in columns e) ++ (rows_bytes (rows_in columns e ++ p.rows) ++ end_bytes))) ++ data_bytes static ps) same
+      ∙ ap (λ (rs : List ℕ). (head_bytes (partition_in columns e.0) ++ (static_part_bytes static (static_part_in columns e) ++ (rs ++ end_bytes))) ++ data_bytes static ps)
       (rows_first (clustering_in columns e.0) e.1 p)
-      ∙ row_before (head_bytes (partition_in columns e.0)) (fixed_bytes static (fixed_in columns e)) row (rows_bytes p.rows) end_bytes (data_bytes static ps)
+      ∙ row_before (head_bytes (partition_in columns e.0)) (static_part_bytes static (static_part_in columns e)) row (rows_bytes p.rows) end_bytes (data_bytes static ps)
   begun_by false p ps t =
-      ap (λ (rs : List ℕ). (head_bytes (partition_in columns e.0) ++ (fixed_bytes static (fixed_in columns e) ++ (rs ++ end_bytes))) ++ data_bytes static (p ∷ ps))
+      ap (λ (rs : List ℕ). (head_bytes (partition_in columns e.0) ++ (static_part_bytes static (static_part_in columns e) ++ (rs ++ end_bytes))) ++ data_bytes static (p ∷ ps))
       (rows_written (clustering_in columns e.0) e.1)
-      ∙ one_row_before (head_bytes (partition_in columns e.0)) (fixed_bytes static (fixed_in columns e)) row end_bytes (data_bytes static (p ∷ ps))
+      ∙ one_row_before (head_bytes (partition_in columns e.0)) (static_part_bytes static (static_part_in columns e)) row end_bytes (data_bytes static (p ∷ ps))
 
   begun : (ps : List Partition) → left_bytes static None (joined columns e ps) ≡ opened ++ (row ++ left_bytes static (Some (partition_in columns e.0)) ps)
   begun [] =
-      ap (λ (rs : List ℕ). (head_bytes (partition_in columns e.0) ++ (fixed_bytes static (fixed_in columns e) ++ (rs ++ end_bytes))) ++ [])
+      ap (λ (rs : List ℕ). (head_bytes (partition_in columns e.0) ++ (static_part_bytes static (static_part_in columns e) ++ (rs ++ end_bytes))) ++ [])
       (rows_written (clustering_in columns e.0) e.1)
-      ∙ one_row (head_bytes (partition_in columns e.0)) (fixed_bytes static (fixed_in columns e)) row end_bytes
+      ∙ one_row (head_bytes (partition_in columns e.0)) (static_part_bytes static (static_part_in columns e)) row end_bytes
   begun (p ∷ ps) = begun_by (pointwise nat_eq p.key (partition_in columns e.0)) p ps refl
 
   -- ---- an entry of the open partition
 
   went_by : (t : Bool) (p : Partition) (ps : List Partition) → pointwise nat_eq p.key (partition_in columns e.0) ≡ t
-      → left_bytes static (Some (partition_in columns e.0)) (if t then with_entry columns e p ∷ ps else alone columns e ∷ p ∷ ps)
+      → left_bytes static (Some (partition_in columns e.0)) (if t then with_entry_before columns e p ∷ ps else alone columns e ∷ p ∷ ps)
       ≡ row ++ (if t then rows_bytes p.rows ++ (end_bytes ++ data_bytes static ps) else end_bytes ++ data_bytes static (p ∷ ps))
   went_by true p ps t =
       rw t
@@ -112,8 +112,8 @@ module _ (columns : Columns) (static : Option ValueType) (e : Entry) where
 
   module _ (last : List ℕ) (other : last ≢ partition_in columns e.0) where
     turned_by : (t : Bool) (p : Partition) (ps : List Partition) → pointwise nat_eq p.key (partition_in columns e.0) ≡ t
-        → left_bytes static (Some last) (if t then with_entry columns e p ∷ ps else alone columns e ∷ p ∷ ps)
-        ≡ end_bytes ++ data_bytes static (if t then with_entry columns e p ∷ ps else alone columns e ∷ p ∷ ps)
+        → left_bytes static (Some last) (if t then with_entry_before columns e p ∷ ps else alone columns e ∷ p ∷ ps)
+        ≡ end_bytes ++ data_bytes static (if t then with_entry_before columns e p ∷ ps else alone columns e ∷ p ∷ ps)
     turned_by true p ps t =
         let same : p.key ≡ partition_in columns e.0 = same_text p.key (partition_in columns e.0) (sym t) in
         rw (other_key p.key last (λ is. other (sym is ∙ same))) refl
@@ -138,7 +138,7 @@ module _ (columns : Columns) (static : Option ValueType) (e : Entry) where
   -- the bytes before the row, the row, and what is left behind it
   pub step_bytes : (last : Option (List ℕ)) (ps : List Partition)
       → left_bytes static last (joined columns e ps)
-      ≡ before_row static last (partition_in columns e.0) (fixed_in columns e) ++ (row ++ left_bytes static (Some (partition_in columns e.0)) ps)
+      ≡ before_row static last (partition_in columns e.0) (static_part_in columns e) ++ (row ++ left_bytes static (Some (partition_in columns e.0)) ps)
   step_bytes None ps = begun ps
   step_bytes (Some last) ps = step_by (pointwise nat_eq last (partition_in columns e.0)) last ps refl
 
@@ -146,7 +146,7 @@ module _ (columns : Columns) (static : Option ValueType) (e : Entry) where
 
 module _ (columns : Columns) (e : Entry) where
   count_by : (t : Bool) (p : Partition) (ps : List Partition)
-      → length (if t then with_entry columns e p ∷ ps else alone columns e ∷ p ∷ ps) ≡ 1 + (if t then length ps else length (p ∷ ps))
+      → length (if t then with_entry_before columns e p ∷ ps else alone columns e ∷ p ∷ ps) ≡ 1 + (if t then length ps else length (p ∷ ps))
   count_by true p ps = omega arith
   count_by false p ps = omega arith
 
@@ -155,7 +155,7 @@ module _ (columns : Columns) (e : Entry) where
   count_begun (p ∷ ps) = count_by (pointwise nat_eq p.key (partition_in columns e.0)) p ps
 
   count_went_by : (t : Bool) (p : Partition) (ps : List Partition) → pointwise nat_eq p.key (partition_in columns e.0) ≡ t
-      → left_count (Some (partition_in columns e.0)) (if t then with_entry columns e p ∷ ps else alone columns e ∷ p ∷ ps) ≡ (if t then length ps else length (p ∷ ps))
+      → left_count (Some (partition_in columns e.0)) (if t then with_entry_before columns e p ∷ ps else alone columns e ∷ p ∷ ps) ≡ (if t then length ps else length (p ∷ ps))
   count_went_by true p ps t = rw t refl
   count_went_by false p ps t = rw (same_key (partition_in columns e.0) (partition_in columns e.0) refl) refl
 
@@ -165,7 +165,7 @@ module _ (columns : Columns) (e : Entry) where
 
   module _ (last : List ℕ) (other : last ≢ partition_in columns e.0) where
     count_turned_by : (t : Bool) (p : Partition) (ps : List Partition) → pointwise nat_eq p.key (partition_in columns e.0) ≡ t
-        → left_count (Some last) (if t then with_entry columns e p ∷ ps else alone columns e ∷ p ∷ ps) ≡ length (if t then with_entry columns e p ∷ ps else alone columns e ∷ p ∷ ps)
+        → left_count (Some last) (if t then with_entry_before columns e p ∷ ps else alone columns e ∷ p ∷ ps) ≡ length (if t then with_entry_before columns e p ∷ ps else alone columns e ∷ p ∷ ps)
     count_turned_by true p ps t =
         let same : p.key ≡ partition_in columns e.0 = same_text p.key (partition_in columns e.0) (sym t) in
         rw (other_key p.key last (λ is. other (sym is ∙ same))) refl
@@ -196,12 +196,12 @@ value_short : (type : ValueType) (value : List ℕ) → IsValueOf type value →
 value_short Text value is = is.0
 value_short Blob value is = is
 
-fixed_short : (static : Option ValueType) (value : List ℕ) → IsFixed static (Some value) → length value ≤ 65535
-fixed_short None value is = absurd is
-fixed_short (Some type) value is = value_short type value is
+static_part_short : (static : Option ValueType) (value : List ℕ) → FitsStaticType static (Some value) → length value ≤ 65535
+static_part_short None value is = absurd is
+static_part_short (Some type) value is = value_short type value is
 
 behind_short : (columns : Columns) (clustering value : List ℕ) → IsBehind columns clustering value → (length clustering ≤ 1024) × (length value ≤ 65535)
-behind_short columns [] value is = (omega arith, fixed_short columns.static_value value is)
+behind_short columns [] value is = (omega arith, static_part_short columns.static_value value is)
 behind_short columns (b ∷ bs) value is = (string_length columns.clustering (b ∷ bs) is.0, value_short columns.value value is.1)
 
 -- how long the parts of an entry may be
@@ -215,22 +215,22 @@ entry_short columns e is =
     let behind = behind_short columns (clustering_in columns e.0) e.1 is.behind in
     record { partition = string_length columns.partition (partition_in columns e.0) is.partition; clustering = behind.0; value = behind.1 }
 
-fixed_few : (static : Option ValueType) (clustering value : List ℕ) → length value ≤ 65535 → length (fixed_bytes static (fixed_by clustering value)) ≤ 65538
-fixed_few None clustering value h = omega arith
-fixed_few (Some type) [] value h = omega arith
-fixed_few (Some type) (b ∷ bs) value h = omega arith
+static_part_few : (static : Option ValueType) (clustering value : List ℕ) → length value ≤ 65535 → length (static_part_bytes static (static_part_by clustering value)) ≤ 65538
+static_part_few None clustering value h = omega arith
+static_part_few (Some type) [] value h = omega arith
+static_part_few (Some type) (b ∷ bs) value h = omega arith
 
 opened_few : (static : Option ValueType) (key clustering value : List ℕ) → length key ≤ 1024 → length value ≤ 65535
-    → length (head_bytes key ++ fixed_bytes static (fixed_by clustering value)) ≤ 66564
+    → length (head_bytes key ++ static_part_bytes static (static_part_by clustering value)) ≤ 66564
 opened_few static key clustering value k v =
-    omega (arith, fixed_few static clustering value v, length-append (head_bytes key) (fixed_bytes static (fixed_by clustering value)))
+    omega (arith, static_part_few static clustering value v, length-append (head_bytes key) (static_part_bytes static (static_part_by clustering value)))
 
 before_few : (static : Option ValueType) (last : Option (List ℕ)) (key clustering value : List ℕ) → length key ≤ 1024 → length value ≤ 65535
-    → length (before_row static last key (fixed_by clustering value)) ≤ 66565
+    → length (before_row static last key (static_part_by clustering value)) ≤ 66565
 before_few static None key clustering value k v = omega (arith, opened_few static key clustering value k v)
 before_few static (Some last) key clustering value k v = by (pointwise nat_eq last key)
   where
-    by : (t : Bool) → length (if not t then end_bytes ++ (head_bytes key ++ fixed_bytes static (fixed_by clustering value)) else []) ≤ 66565
+    by : (t : Bool) → length (if not t then end_bytes ++ (head_bytes key ++ static_part_bytes static (static_part_by clustering value)) else []) ≤ 66565
     by true = omega arith
     by false = omega (arith, opened_few static key clustering value k v)
 
@@ -244,7 +244,7 @@ module _ (columns : Columns) (static : Option ValueType) where
   short (Some last) [] h = omega arith
   short last (e ∷ es) (h, hs) =
       let key : List ℕ = partition_in columns e.0 in
-      let before : List ℕ = before_row static last key (fixed_in columns e) in
+      let before : List ℕ = before_row static last key (static_part_in columns e) in
       let row : List ℕ = written_row (clustering_in columns e.0) e.1 in
       let rest : List ℕ = left_bytes static (Some key) (grouped columns es) in
       let small = entry_short columns e h in
@@ -265,7 +265,7 @@ module _ (columns : Columns) (static : Option ValueType) where
 -- ---- a step over entries
 
 module _ (columns : Columns) where
-  few_by : (t : Bool) (e : Entry) (p : Partition) (ps : List Partition) → length (if t then with_entry columns e p ∷ ps else alone columns e ∷ p ∷ ps) ≤ length ps + 2
+  few_by : (t : Bool) (e : Entry) (p : Partition) (ps : List Partition) → length (if t then with_entry_before columns e p ∷ ps else alone columns e ∷ p ∷ ps) ≤ length ps + 2
   few_by true e p ps = omega arith
   few_by false e p ps = omega arith
 
@@ -289,9 +289,9 @@ module _ (columns : Columns) where
 
 module _ (columns : Columns) (last : Option (List ℕ)) {es rest : List Entry} {key string partition clustering value bytes : List ℕ} (is : es ≡ (key, value) ∷ rest)
     (string_is : string ≡ key) (partition_is : partition ≡ partition_in columns string) (clustering_is : clustering ≡ clustering_in columns string) (bytes_is : bytes ≡ value) where
-  pub bytes_split : (static : Option ValueType) (fixed : Option (List ℕ)) → fixed ≡ fixed_by clustering bytes → left_bytes static last (grouped columns es)
-      ≡ before_row static last partition fixed ++ (written_row clustering bytes ++ left_bytes static (Some partition) (grouped columns rest))
-  bytes_split static fixed fixed_is = rw (is, fixed_is, bytes_is, partition_is, clustering_is, string_is) (step_bytes columns static (key, value) last (grouped columns rest))
+  pub bytes_split : (static : Option ValueType) (static_part : Option (List ℕ)) → static_part ≡ static_part_by clustering bytes → left_bytes static last (grouped columns es)
+      ≡ before_row static last partition static_part ++ (written_row clustering bytes ++ left_bytes static (Some partition) (grouped columns rest))
+  bytes_split static static_part static_part_is = rw (is, static_part_is, bytes_is, partition_is, clustering_is, string_is) (step_bytes columns static (key, value) last (grouped columns rest))
 
   pub count_split : left_count last (grouped columns es) ≡ begun_at last partition + left_count (Some partition) (grouped columns rest)
   count_split = rw (is, partition_is, string_is) (step_count columns (key, value) last (grouped columns rest))

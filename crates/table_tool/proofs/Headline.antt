@@ -1,5 +1,6 @@
 -- A `load`, and a `scan` over the files that it left.
-use Rattle.std.proofs.Common.{◌≡◌, ◌++◌, ℕ, List, Option, Some, Result, Ok, Err, refl, sym, ◌∙◌, subst}
+use Rattle.std.proofs.Common.{◌≡◌, ◌++◌, ℕ, List, Option, Some, Result, Ok, Err, refl, sym, ◌∙◌, ap, subst}
+use Rattle.std.proofs.lemmas.List.{append-nil}
 use Rattle.std.specs.Prelude.{IfSome}
 use Rattle.std.specs.FinMap as map
 use Rattle.std.specs.declared.string.String.{String}
@@ -8,6 +9,9 @@ use Rattle.outside.specs.Files.{Files}
 use Rattle.outside.specs.Told.{WhereTold}
 use Rattle.key_types.specs.Columns.{Columns}
 use Rattle.key_types.specs.Table.{Table}
+use Rattle.script_text.proofs.Meaning.{meaning}
+use Rattle.script_text.specs.Lines.{lines_of}
+use Rattle.script_text.specs.Meaning.{AreAcceptedLines, IsScript, script_with}
 use Rattle.script_text.specs.Puts.{Put}
 use Rattle.script_text.specs.Script.{puts_of, script_of}
 use Rattle.script_text.specs.declared.script.Script.{Script}
@@ -32,6 +36,14 @@ accepted (Err (script_error.BadLine line cause)) puts e = cc
 accepted (Err script_error.TooLarge) puts e = cc
 accepted (Err script_error.NoMemory) puts e = cc
 
+-- the puts of a script that `script_of` computes are those of its lines
+said : (columns : Columns) (bytes : List ℕ) (puts : List Put) → (script : Script) × (script_of columns bytes ≡ Ok script) × (puts_of script.batches ≡ puts)
+    → AreAcceptedLines columns 1 (lines_of bytes) puts
+said columns bytes puts (script, is, of) =
+    let meant : IsScript columns bytes (Ok script) = subst (IsScript columns bytes) is (meaning.computed columns bytes) in
+    let same : meant.1 ≡ puts = sym (append-nil meant.1) ∙ ap (λ (s : Script). puts_of s.batches) (sym meant.3) ∙ of in
+    subst (AreAcceptedLines columns 1 (lines_of bytes)) same meant.2
+
 module _ (columns : Columns) (files : Files) (puts : List Put) (before after : Outside) (result : Status) (told : before.files ≡ Some files) (ends : ScanEnds before after result)
     (stand : StandFor files first_generation columns (table_put puts)) where
   prints : WhereTold before.written after.written (ScanPrints columns result (rows_of puts) before.sink_faults after.sink_faults)
@@ -47,13 +59,8 @@ module _ (columns : Columns) (files : Files) (puts : List Put) (before after : O
   all_printed : result ≡ status.Ok → WhereTold before.written after.written (λ old new. new ≡ old ++ rows_text columns (rows_of puts))
   all_printed ok = subst (λ (r : Status). WhereTold before.written after.written (ScanPrints columns r (rows_of puts) before.sink_faults after.sink_faults)) ok prints
 
-  all_puts : (bytes : List ℕ) → (script : Script) × (script_of columns bytes ≡ Ok script) × (puts_of script.batches ≡ puts) → PrintsAllPuts columns bytes before after result
-  all_puts bytes (script, is, of) = record {
-    script = script;
-    accepted = is;
-    printed = λ ok. subst (λ (ps : List Put). WhereTold before.written after.written (λ old new. new ≡ old ++ rows_text columns (rows_of ps))) (sym of) (all_printed ok);
-    complete = well;
-  }
+  all_puts : (bytes : List ℕ) → AreAcceptedLines columns 1 (lines_of bytes) puts → PrintsAllPuts columns bytes before after result
+  all_puts bytes are = record { puts = puts; accepted = are; printed = all_printed; complete = well }
 
 -- what a `load` that ended Ok has done
 loaded_well : (columns : Columns) (bytes : List ℕ) (files : Files) (before after : Outside) → before.left ≡ Some bytes → after.files ≡ Some files → LoadEnds columns before after status.Ok
@@ -66,4 +73,4 @@ loaded_well columns bytes files before after left there ends =
 pub headline : Headline
 headline words words' columns bytes files before between between' after result ask ask' left there also first second =
     let done = loaded_well columns bytes files before between left there (first.load columns ask) in
-    all_puts columns files done.0 between' after result also (second.scan ask') done.2 bytes (accepted (script_of columns bytes) done.0 done.1)
+    all_puts columns files done.0 between' after result also (second.scan ask') done.2 bytes (said columns bytes done.0 (accepted (script_of columns bytes) done.0 done.1))

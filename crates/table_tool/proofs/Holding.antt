@@ -17,9 +17,9 @@ use Rattle.byte_comparable.proofs.Compare.{same, slice_front}
 use Rattle.byte_comparable.proofs.Kept.{whole}
 use Rattle.key_decode.specs.Strings.{IsStringOf}
 use Rattle.key_decode.proofs.Known.{taken}
-use Rattle.data_file.specs.Listing.{Row, Partition, IsFixed, AreRows, data_bytes, ArePartitions}
+use Rattle.data_file.specs.Listing.{Row, Partition, FitsStaticType, AreRows, data_bytes, ArePartitions}
 use Rattle.table_tool.specs.Entries.{clustering_in, partition_in}
-use Rattle.table_tool.specs.Grouping.{IsBehind, IsTableEntry, AreTableEntries, alone, with_entry, joined, grouped, fixed_by, fixed_in, rows_by, rows_in}
+use Rattle.table_tool.specs.Grouping.{IsBehind, IsTableEntry, AreTableEntries, alone, with_entry_before, joined, grouped, static_part_by, static_part_in, rows_by, rows_in}
 use Rattle.table_files.specs.Standing.{Holds, RowsAscend, StringsAscend, entries_in, row_entries, static_entries}
 
 -- ---- the order of strings that are put together
@@ -87,16 +87,16 @@ some_behind (x ∷ c) [] less e = cc
 some_behind (x ∷ c) (y ∷ d) less e = cc
 
 -- an entry of a row has no static value
-row_unfixed : (d value : List ℕ) → d ≢ [] → fixed_by d value ≡ None
-row_unfixed [] value some = absurd (some refl)
-row_unfixed (b ∷ d) value some = refl
+row_without_static_part : (d value : List ℕ) → d ≢ [] → static_part_by d value ≡ None
+row_without_static_part [] value some = absurd (some refl)
+row_without_static_part (b ∷ d) value some = refl
 
 one_row : (d value : List ℕ) → d ≢ [] → rows_by d value ≡ record { clustering = d; value = value } ∷ []
 one_row [] value some = absurd (some refl)
 one_row (b ∷ d) value some = refl
 
 -- it is of a static value or of a row
-one_of_both : (c value : List ℕ) (rows : List Row) → fixed_by c value ≡ None → rows_by c value ++ rows ≢ []
+one_of_both : (c value : List ℕ) (rows : List Row) → static_part_by c value ≡ None → rows_by c value ++ rows ≢ []
 one_of_both [] value rows is empty = cc
 one_of_both (b ∷ c) value rows is empty = cc
 
@@ -115,7 +115,7 @@ row_alone (b ∷ c) value = tt
 
 -- its entry stands before those of the rows
 entry_first : (key c value : List ℕ) (rows : List Row) (rest : List Entry)
-    → static_entries key (fixed_by c value) ++ (row_entries key (rows_by c value ++ rows) ++ rest) ≡ (key ++ c, value) ∷ (row_entries key rows ++ rest)
+    → static_entries key (static_part_by c value) ++ (row_entries key (rows_by c value ++ rows) ++ rest) ≡ (key ++ c, value) ∷ (row_entries key rows ++ rest)
 entry_first key [] value rows rest = ap (λ (k : List ℕ). (k, value) ∷ (row_entries key rows ++ rest)) (sym (append-nil key))
 entry_first key (b ∷ c) value rows rest = refl
 
@@ -123,13 +123,13 @@ entry_back : (columns : Columns) (e : Entry) (key : List ℕ) → IsTableEntry c
 entry_back columns e key is key_is = ap (λ (s : List ℕ). (s, e.1)) (ap (λ (k : List ℕ). k ++ clustering_in columns e.0) key_is ∙ is.parts)
 
 -- the partition of one entry
-alone_some : (columns : Columns) (e : Entry) → fixed_in columns e ≡ None → rows_in columns e ≢ []
+alone_some : (columns : Columns) (e : Entry) → static_part_in columns e ≡ None → rows_in columns e ≢ []
 alone_some columns e is empty = one_of_both (clustering_in columns e.0) e.1 [] is (append-nil (rows_in columns e) ∙ empty)
 
 alone_first : (columns : Columns) (e : Entry) (ps : List Partition) → IsTableEntry columns e → entries_in (alone columns e ∷ ps) ≡ e ∷ entries_in ps
 alone_first columns e ps is =
     let key : List ℕ = partition_in columns e.0 in
-    ap (λ (rs : List Row). static_entries key (fixed_in columns e) ++ (row_entries key rs ++ entries_in ps)) (sym (append-nil (rows_in columns e)))
+    ap (λ (rs : List Row). static_entries key (static_part_in columns e) ++ (row_entries key rs ++ entries_in ps)) (sym (append-nil (rows_in columns e)))
     ∙ entry_first key (clustering_in columns e.0) e.1 [] (entries_in ps)
     ∙ ap (λ (x : Entry). x ∷ entries_in ps) (entry_back columns e key is refl)
 
@@ -150,7 +150,7 @@ record Tidy (columns : Columns) (e : Entry) (es : List Entry) (ps : List Partiti
   tail : List Partition
   is : ps ≡ head ∷ tail
   key_is : head.key ≡ partition_in columns e.0
-  fixed_is : head.fixed ≡ fixed_in columns e
+  static_part_is : head.static_part ≡ static_part_in columns e
   others : List Row
   rows_are : head.rows ≡ rows_in columns e ++ others
   ascend : StringsAscend (map (λ p. p.key) ps)
@@ -159,23 +159,23 @@ record Tidy (columns : Columns) (e : Entry) (es : List Entry) (ps : List Partiti
 
 module _ (columns : Columns) (e f : Entry) (es : List Entry) (is_e : IsTableEntry columns e) (is_f : IsTableEntry columns f) (less : string_cmp e.0 f.0 ≡ Less)
     (head : Partition) (tail : List Partition) (others : List Row)
-    (key_is : head.key ≡ partition_in columns f.0) (fixed_is : head.fixed ≡ fixed_in columns f) (rows_are : head.rows ≡ rows_in columns f ++ others)
+    (key_is : head.key ≡ partition_in columns f.0) (static_part_is : head.static_part ≡ static_part_in columns f) (rows_are : head.rows ≡ rows_in columns f ++ others)
     (ascend : StringsAscend (map (λ (p : Partition). p.key) (head ∷ tail))) (rows : RowsAscend (head ∷ tail)) (same : entries_in (head ∷ tail) ≡ f ∷ es) where
-  same_partition : pointwise nat_eq head.key (partition_in columns e.0) ≡ true → Tidy columns e (f ∷ es) (with_entry columns e head ∷ tail)
+  same_partition : pointwise nat_eq head.key (partition_in columns e.0) ≡ true → Tidy columns e (f ∷ es) (with_entry_before columns e head ∷ tail)
   same_partition t =
       let is_key : head.key ≡ partition_in columns e.0 = same_text head.key (partition_in columns e.0) (sym t) in
       let first : string_cmp (clustering_in columns e.0) (clustering_in columns f.0) ≡ Less = row_less columns e f is_e is_f less (sym is_key ∙ key_is) in
       let some : clustering_in columns f.0 ≢ [] = some_behind (clustering_in columns e.0) (clustering_in columns f.0) first in
-      let unfixed : head.fixed ≡ None = fixed_is ∙ row_unfixed (clustering_in columns f.0) f.1 some in
+      let without_static_part : head.static_part ≡ None = static_part_is ∙ row_without_static_part (clustering_in columns f.0) f.1 some in
       let one : head.rows ≡ record { clustering = clustering_in columns f.0; value = f.1 } ∷ others = rows_are ∙ ap (λ (rs : List Row). rs ++ others) (one_row (clustering_in columns f.0) f.1 some) in
       let behind : row_entries head.key head.rows ++ entries_in tail ≡ f ∷ es =
-      ap (λ (fixed : Option (List ℕ)). static_entries head.key fixed ++ (row_entries head.key head.rows ++ entries_in tail)) (sym unfixed) ∙ same in
+      ap (λ (static_part : Option (List ℕ)). static_entries head.key static_part ++ (row_entries head.key head.rows ++ entries_in tail)) (sym without_static_part) ∙ same in
       record {
-        head = with_entry columns e head;
+        head = with_entry_before columns e head;
         tail = tail;
         is = refl;
         key_is = is_key;
-        fixed_is = refl;
+        static_part_is = refl;
         others = head.rows;
         rows_are = refl;
         ascend = ascend;
@@ -199,7 +199,7 @@ module _ (columns : Columns) (e f : Entry) (es : List Entry) (is_e : IsTableEntr
         tail = head ∷ tail;
         is = refl;
         key_is = refl;
-        fixed_is = refl;
+        static_part_is = refl;
         others = [];
         rows_are = sym (append-nil (rows_in columns e));
         ascend = (subst (λ (k : List ℕ). string_cmp (partition_in columns e.0) k ≡ Less) (sym key_is) first, ascend);
@@ -208,7 +208,7 @@ module _ (columns : Columns) (e f : Entry) (es : List Entry) (is_e : IsTableEntr
       }
 
   tidy_by : (t : Bool) → pointwise nat_eq head.key (partition_in columns e.0) ≡ t
-      → Tidy columns e (f ∷ es) (if t then with_entry columns e head ∷ tail else alone columns e ∷ head ∷ tail)
+      → Tidy columns e (f ∷ es) (if t then with_entry_before columns e head ∷ tail else alone columns e ∷ head ∷ tail)
   tidy_by true t = same_partition t
   tidy_by false t = new_partition t
 
@@ -217,7 +217,7 @@ module _ (columns : Columns) where
       → Tidy columns e (f ∷ es) (joined columns e ps)
   tidy_more e f es ps is_e is_f less d =
       subst (λ (qs : List Partition). Tidy columns e (f ∷ es) (joined columns e qs)) (sym d.is)
-      (tidy_by columns e f es is_e is_f less d.head d.tail d.others d.key_is d.fixed_is d.rows_are
+      (tidy_by columns e f es is_e is_f less d.head d.tail d.others d.key_is d.static_part_is d.rows_are
       (subst (λ (qs : List Partition). StringsAscend (map (λ (p : Partition). p.key) qs)) d.is d.ascend) (subst RowsAscend d.is d.rows) (ap entries_in (sym d.is) ∙ d.same)
       (pointwise nat_eq d.head.key (partition_in columns e.0)) refl)
 
@@ -227,7 +227,7 @@ module _ (columns : Columns) where
     tail = [];
     is = refl;
     key_is = refl;
-    fixed_is = refl;
+    static_part_is = refl;
     others = [];
     rows_are = sym (append-nil (rows_in columns e));
     ascend = tt;
@@ -253,13 +253,13 @@ module _ (columns : Columns) where
 
   -- ---- they are partitions
 
-  no_fixed : (static : Option ValueType) → IsFixed static None
-  no_fixed None = tt
-  no_fixed (Some type) = tt
+  no_static_part : (static : Option ValueType) → FitsStaticType static None
+  no_static_part None = tt
+  no_static_part (Some type) = tt
 
-  entry_fixed : (c value : List ℕ) → IsBehind columns c value → IsFixed columns.static_value (fixed_by c value)
-  entry_fixed [] value is = is
-  entry_fixed (b ∷ c) value is = no_fixed columns.static_value
+  entry_static_part : (c value : List ℕ) → IsBehind columns c value → FitsStaticType columns.static_value (static_part_by c value)
+  entry_static_part [] value is = is
+  entry_static_part (b ∷ c) value is = no_static_part columns.static_value
 
   entry_rows : (c value : List ℕ) (rows : List Row) → IsBehind columns c value → AreRows columns rows → AreRows columns (rows_by c value ++ rows)
   entry_rows [] value rows is are = are
@@ -270,12 +270,12 @@ module _ (columns : Columns) where
   alone_rows (b ∷ c) value is = (is, tt)
 
   are_by : (t : Bool) (e : Entry) (p : Partition) (ps : List Partition) → IsTableEntry columns e → ArePartitions columns (p ∷ ps)
-      → ArePartitions columns (if t then with_entry columns e p ∷ ps else alone columns e ∷ p ∷ ps)
-  are_by true e p ps h are = (are.0, entry_fixed (clustering_in columns e.0) e.1 h.behind, entry_rows (clustering_in columns e.0) e.1 p.rows h.behind are.2, are.3)
-  are_by false e p ps h are = (h.partition, entry_fixed (clustering_in columns e.0) e.1 h.behind, alone_rows (clustering_in columns e.0) e.1 h.behind, are)
+      → ArePartitions columns (if t then with_entry_before columns e p ∷ ps else alone columns e ∷ p ∷ ps)
+  are_by true e p ps h are = (are.0, entry_static_part (clustering_in columns e.0) e.1 h.behind, entry_rows (clustering_in columns e.0) e.1 p.rows h.behind are.2, are.3)
+  are_by false e p ps h are = (h.partition, entry_static_part (clustering_in columns e.0) e.1 h.behind, alone_rows (clustering_in columns e.0) e.1 h.behind, are)
 
   one_more : (e : Entry) (ps : List Partition) → IsTableEntry columns e → ArePartitions columns ps → ArePartitions columns (joined columns e ps)
-  one_more e [] h are = (h.partition, entry_fixed (clustering_in columns e.0) e.1 h.behind, alone_rows (clustering_in columns e.0) e.1 h.behind, tt)
+  one_more e [] h are = (h.partition, entry_static_part (clustering_in columns e.0) e.1 h.behind, alone_rows (clustering_in columns e.0) e.1 h.behind, tt)
   one_more e (p ∷ ps) h are = are_by (pointwise nat_eq p.key (partition_in columns e.0)) e p ps h are
 
   pub are_partitions : (es : List Entry) → AreTableEntries columns es → ArePartitions columns (grouped columns es)

@@ -7,7 +7,7 @@ use Rattle.key_types.specs.Table.{Entry}
 use Rattle.key_decode.specs.Reading.{values_at}
 use Rattle.key_decode.specs.Strings.{IsStringOf, BeginsString}
 use Rattle.key_decode.proofs.Known.{read_of, taken}
-use Rattle.table_tool.specs.Entries.{partition_in, clustering_in, has_some, rest_of}
+use Rattle.table_tool.specs.Entries.{partition_in, clustering_in, has_some, rest_behind}
 use Rattle.table_tool.specs.Grouping.{IsTableEntry}
 use Rattle.table_tool.proofs.PrintedLemmas.{some_key}
 
@@ -16,7 +16,7 @@ module _ (columns : Columns) where
   pub row_part : (key string rest : List ℕ) → IsStringOf columns.partition string → key ≡ string ++ rest → clustering_in columns key ≡ rest
   row_part key string rest is e =
       let read = read_of columns.partition string rest is in
-      ap (λ (k : List ℕ). rest_of (values_at columns.partition k)) e ∙ ap rest_of read.2
+      ap (λ (k : List ℕ). rest_behind (values_at columns.partition k)) e ∙ ap rest_behind read.2
 
   pub parted : (key string rest : List ℕ) → IsStringOf columns.partition string → key ≡ string ++ rest → (partition_in columns key ≡ string) × (clustering_in columns key ≡ rest)
   parted key string rest is e =

@@ -12,7 +12,7 @@ use Rattle.key_decode.specs.Reading.{values_at}
 use Rattle.key_decode.proofs.Known.{read_key}
 use Rattle.key_text.specs.Written.{equals_literal}
 use Rattle.key_printing.specs.Texts.{IsTextOf, PutsText}
-use Rattle.table_tool.specs.Entries.{has_some, is_row, rest_of, row_count}
+use Rattle.table_tool.specs.Entries.{has_some, is_row, rest_behind, row_count}
 use Rattle.table_tool.specs.Grouping.{row_at}
 use Rattle.table_tool.specs.Lines.{EndsLine}
 use Rattle.table_tool.specs.Printed.{entry_line, entry_lines, line_behind, line_by, row_by, row_line, static_by, static_line}
@@ -61,7 +61,7 @@ module _ (columns : Columns) where
       ∙ ap (λ (r : Result (Vals × List ℕ) ℕ). row_by columns partition r value) (read_whole columns.clustering clustering within)
 
   pub is_row_entry : (partition : Vals) (rest value : List ℕ) → EachFits columns.partition partition → is_row columns (key_string columns.partition partition ++ rest, value) ≡ has_some rest
-  is_row_entry partition rest value fits = ap (λ (r : Result (Vals × List ℕ) ℕ). has_some (rest_of r)) (read_key columns.partition partition rest fits)
+  is_row_entry partition rest value fits = ap (λ (r : Result (Vals × List ℕ) ℕ). has_some (rest_behind r)) (read_key columns.partition partition rest fits)
 
   -- that of a static value
   pub static_named : (partition : Vals) (value : List ℕ) → EachFits columns.partition partition
@@ -69,7 +69,7 @@ module _ (columns : Columns) where
   static_named partition value fits = ap (λ (r : Result (Vals × List ℕ) ℕ). line_by columns r value) (read_whole columns.partition partition fits)
 
   pub is_static_entry : (partition : Vals) (value : List ℕ) → EachFits columns.partition partition → is_row columns (key_string columns.partition partition, value) ≡ false
-  is_static_entry partition value fits = ap (λ (r : Result (Vals × List ℕ) ℕ). has_some (rest_of r)) (read_whole columns.partition partition fits)
+  is_static_entry partition value fits = ap (λ (r : Result (Vals × List ℕ) ℕ). has_some (rest_behind r)) (read_whole columns.partition partition fits)
 
   pub static_line_named : (type : ValueType) (partition : Vals) (value : List ℕ) → columns.static_value ≡ Some type → EachFits columns.partition partition
       → entry_line columns (key_string columns.partition partition, value) ≡ static_line columns type partition value
@@ -102,9 +102,9 @@ module _ (columns : Columns) where
   line_ended string clustering value before so_far whole (text, is, put) ends = ends before string text is put
 
   -- the static value of a partition, where it has one
-  pub fixed_ended : (key text value before so_far whole : List ℕ) → IsTextOf columns.partition key text → so_far ≡ before ++ text → EndsLine columns [] value so_far whole
+  pub static_part_ended : (key text value before so_far whole : List ℕ) → IsTextOf columns.partition key text → so_far ≡ before ++ text → EndsLine columns [] value so_far whole
       → whole ≡ before ++ entry_lines columns (static_entries key (Some value))
-  fixed_ended key text value before so_far whole is put ends =
+  static_part_ended key text value before so_far whole is put ends =
       ends before key text is put ∙ ap (λ t. before ++ t) (ap (λ (s : List ℕ). entry_line columns (s, value)) (append-nil key) ∙ sym (append-nil (entry_line columns (key, value))))
 
   -- ---- which entries are of rows
@@ -113,9 +113,9 @@ module _ (columns : Columns) where
   is_row_behind key text rest value (partition, fits, is, spelled) =
       ap (λ (k : List ℕ). is_row columns (k ++ rest, value)) is ∙ is_row_entry partition rest value fits
 
-  pub fixed_count : (key text : List ℕ) (fixed : Option (List ℕ)) → IsTextOf columns.partition key text → row_count columns (static_entries key fixed) ≡ 0
-  fixed_count key text None is = refl
-  fixed_count key text (Some value) is =
+  pub static_part_count : (key text : List ℕ) (static_part : Option (List ℕ)) → IsTextOf columns.partition key text → row_count columns (static_entries key static_part) ≡ 0
+  static_part_count key text None is = refl
+  static_part_count key text (Some value) is =
       ap (λ (b : Bool). (if b then 1 else 0) + 0) (ap (λ (k : List ℕ). is_row columns (k, value)) (sym (append-nil key)) ∙ is_row_behind key text [] value is)
 
   -- ---- lines and more of them

@@ -14,11 +14,11 @@ use Rattle.key_types.specs.Table.{Entry, string_cmp, table_of}
 use Rattle.key_types.specs.declared.schema.ValueType.{ValueType}
 use Rattle.key_decode.specs.Strings.{IsStringOf}
 use Rattle.key_decode.proofs.Known.{fitting}
-use Rattle.data_file.specs.Listing.{IsFixed}
+use Rattle.data_file.specs.Listing.{FitsStaticType}
 use Rattle.script_text.specs.Puts.{Put}
 use Rattle.script_text.specs.declared.script.Script.{Script}
 use Rattle.script_text.specs.Script.{entries_of, entry_of_put, puts_of}
-use Rattle.script_text.specs.Laws.{ArePuts, IsAccepted, IsKey, IsSchemaPut, IsRowPut, IsStaticPut}
+use Rattle.script_text.specs.Laws.{ArePuts, IsAccepted, IsKeyString, IsSchemaPut, IsRowPut, IsStaticPut}
 use Rattle.script_text.proofs.Accepted.{accepted_script}
 use Rattle.table_tool.specs.Entries.{clustering_in}
 use Rattle.table_tool.specs.Grouping.{AreTableEntries, IsBehind, IsTableEntry}
@@ -29,17 +29,17 @@ use Rattle.table_tool.proofs.PartsLemmas.{parted, some_string}
 
 -- ---- they are entries of a table
 
-key_is_string : (ts : Kinds) (string : List ℕ) → IsKey ts string → IsStringOf ts string
+key_is_string : (ts : Kinds) (string : List ℕ) → IsKeyString ts string → IsStringOf ts string
 key_is_string ts string (vs, fits, e, short) = (vs, fitting ts vs fits (subst (λ (s : List ℕ). length s ≤ 1024) e short) ∙ ap Ok (sym e))
 
-row_behind : (columns : Columns) (clustering value : List ℕ) → IsKey columns.clustering clustering → IsValueOf columns.value value → IsBehind columns clustering value
+row_behind : (columns : Columns) (clustering value : List ℕ) → IsKeyString columns.clustering clustering → IsValueOf columns.value value → IsBehind columns clustering value
 row_behind columns [] value key is = let never = some_string columns.clustering [] (key_is_string columns.clustering [] key) in cc
 row_behind columns (b ∷ bs) value key is = (key_is_string columns.clustering (b ∷ bs) key, is)
 
 put_behind : (columns : Columns) (put : Put) → IsRowPut columns put ⊎ IsStaticPut columns put → IsBehind columns put.clustering put.value
 put_behind columns put (inl (key, value)) = row_behind columns put.clustering put.value key value
-put_behind columns put (inr (type, fixed, empty, value)) =
-    subst (λ (c : List ℕ). IsBehind columns c put.value) (sym empty) (subst (λ (static : Option ValueType). IsFixed static (Some put.value)) (sym fixed) value)
+put_behind columns put (inr (type, static_part, empty, value)) =
+    subst (λ (c : List ℕ). IsBehind columns c put.value) (sym empty) (subst (λ (static : Option ValueType). FitsStaticType static (Some put.value)) (sym static_part) value)
 
 of_put : (columns : Columns) (put : Put) → IsSchemaPut columns put → IsTableEntry columns (entry_of_put put)
 of_put columns put (key, behind) =

@@ -15,8 +15,8 @@ use Rattle.key_types.specs.declared.schema.ValueType.{ValueType}
 use Rattle.data_file.specs.declared.parse.ParseRow.{ParseRow}
 use Rattle.data_file.specs.declared.parse.ParseRow.TheVariants.{Short, Bad, NoMemory}
 use Rattle.data_file.specs.Answers.{damage_at}
-use Rattle.data_file.specs.Listing.{fixed_bytes, head_bytes, row_bytes}
-use Rattle.data_file.specs.Reading.{BeginsEnd, BeginsHead, BeginsRow, NoFixed, NoHead, NoRow}
+use Rattle.data_file.specs.Listing.{static_part_bytes, head_bytes, row_bytes}
+use Rattle.data_file.specs.Reading.{BeginsEnd, BeginsHead, BeginsRow, NoStaticPart, NoHead, NoRow}
 use Rattle.data_file.proofs.Found.{no_head_on}
 use Rattle.table_tool.specs.declared.walk.Walk.{Walk}
 use Rattle.table_tool.specs.declared.walk.Met.{Met}
@@ -25,10 +25,10 @@ use Rattle.table_tool.specs.Entries.{is_row, row_count}
 use Rattle.table_tool.specs.Printed.{entry_line, entry_lines}
 use Rattle.table_tool.specs.Window.{Unread, Continues, HasEnough, enough}
 use Rattle.table_files.specs.Walk.{Passes, Stops}
-use Rattle.table_tool.specs.Steps.{Halts, IsFixedBehind, Moves, NoFixedBehind, PrintsEntries, StepIs, inside_of}
+use Rattle.table_tool.specs.Steps.{Halts, IsStaticPartBehind, Moves, NoStaticPartBehind, PrintsEntries, StepIs, inside_of}
 use Rattle.table_tool.proofs.PartsLemmas.{some_string}
-use Rattle.table_tool.proofs.PrintedLemmas.{fixed_count, is_row_behind}
-use Rattle.table_tool.proofs.WalkLemmas.{bad_fixed_stops, bad_head_stops, bad_row_stops, end_passes, file_end_stops, head_passes, row_passes}
+use Rattle.table_tool.proofs.PrintedLemmas.{static_part_count, is_row_behind}
+use Rattle.table_tool.proofs.WalkLemmas.{bad_static_part_stops, bad_head_stops, bad_row_stops, end_passes, file_end_stops, head_passes, row_passes}
 use Rattle.table_files.specs.Standing.{static_entries}
 
 -- ---- the partition
@@ -91,21 +91,21 @@ module _ (columns : Columns) where
       )
 
   -- behind the head of the bytes its static part stands
-  parts_there : (bytes key more behind : List ℕ) (fixed : Option (List ℕ)) → bytes ≡ head_bytes key ++ more → drop (length (head_bytes key)) bytes ≡ fixed_bytes columns.static_value fixed ++ behind
-      → bytes ≡ (head_bytes key ++ fixed_bytes columns.static_value fixed) ++ behind
-  parts_there bytes key more behind fixed e f =
-      let rest : more ≡ fixed_bytes columns.static_value fixed ++ behind = sym (drop-append_seam (head_bytes key) more) ∙ ap (drop (length (head_bytes key))) (sym e) ∙ f in
-      e ∙ ap (λ bs. head_bytes key ++ bs) rest ∙ sym (append_assoc (head_bytes key) (fixed_bytes columns.static_value fixed) behind)
+  parts_there : (bytes key more behind : List ℕ) (static_part : Option (List ℕ)) → bytes ≡ head_bytes key ++ more → drop (length (head_bytes key)) bytes ≡ static_part_bytes columns.static_value static_part ++ behind
+      → bytes ≡ (head_bytes key ++ static_part_bytes columns.static_value static_part) ++ behind
+  parts_there bytes key more behind static_part e f =
+      let rest : more ≡ static_part_bytes columns.static_value static_part ++ behind = sym (drop-append_seam (head_bytes key) more) ∙ ap (drop (length (head_bytes key))) (sym e) ∙ f in
+      e ∙ ap (λ bs. head_bytes key ++ bs) rest ∙ sym (append_assoc (head_bytes key) (static_part_bytes columns.static_value static_part) behind)
 
-  pub moves_head : (w v : Unread) (n : ℕ) (inside : Option (List ℕ)) (key : List ℕ) (fixed : Option (List ℕ)) (count : ℕ) → w.at + length w.bytes ≤ w.limit → inside ≡ None → v ≡ passed_by n w
-      → n ≡ length (head_bytes key) + count → BeginsHead columns w.bytes key → IsFixedBehind columns (drop (length (head_bytes key)) w.bytes) fixed count
-      → Moving w v inside (Some key) (static_entries key fixed)
-  moves_head w v n inside key fixed count room outside is long (string, (more, e)) (f, size, (behind, g)) =
-      let front : List ℕ = head_bytes key ++ fixed_bytes columns.static_value fixed in
-      moving w v n front behind inside (Some key) (static_entries key fixed) room is (omega (arith, length-append (head_bytes key) (fixed_bytes columns.static_value fixed)))
-      (omega (arith, length-append (head_bytes key) (fixed_bytes columns.static_value fixed))) (parts_there w.bytes key more behind fixed e g)
-      (λ file rest at. subst (λ (o : Option (List ℕ)). Passes columns file o w.at (static_entries key fixed) (Some key) (w.at + length front)) (sym outside)
-      (head_passes columns file w.at key fixed rest string f at))
+  pub moves_head : (w v : Unread) (n : ℕ) (inside : Option (List ℕ)) (key : List ℕ) (static_part : Option (List ℕ)) (count : ℕ) → w.at + length w.bytes ≤ w.limit → inside ≡ None → v ≡ passed_by n w
+      → n ≡ length (head_bytes key) + count → BeginsHead columns w.bytes key → IsStaticPartBehind columns (drop (length (head_bytes key)) w.bytes) static_part count
+      → Moving w v inside (Some key) (static_entries key static_part)
+  moves_head w v n inside key static_part count room outside is long (string, (more, e)) (f, size, (behind, g)) =
+      let front : List ℕ = head_bytes key ++ static_part_bytes columns.static_value static_part in
+      moving w v n front behind inside (Some key) (static_entries key static_part) room is (omega (arith, length-append (head_bytes key) (static_part_bytes columns.static_value static_part)))
+      (omega (arith, length-append (head_bytes key) (static_part_bytes columns.static_value static_part))) (parts_there w.bytes key more behind static_part e g)
+      (λ file rest at. subst (λ (o : Option (List ℕ)). Passes columns file o w.at (static_entries key static_part) (Some key) (w.at + length front)) (sym outside)
+      (head_passes columns file w.at key static_part rest string f at))
 
   pub moves_row : (w v : Unread) (n : ℕ) (inside : Option (List ℕ)) (key c value : List ℕ) → w.at + length w.bytes ≤ w.limit → inside ≡ Some key → v ≡ passed_by n w
       → n ≡ length (row_bytes c value) → BeginsRow columns w.bytes c value → Moving w v inside inside ((key ++ c, value) ∷ [])
@@ -154,21 +154,21 @@ module _ (columns : Columns) where
 
   -- no static part stands there in the file
   no_part_there : (file : List ℕ) (w : Unread) (key more : List ℕ) → length key ≤ 1024 → w.bytes ≡ head_bytes key ++ more → (c : Continues file w) → HasEnough w
-      → ((NoFixed columns more × (length more < 65538)) ⊎ ((rest : List ℕ) → NoFixed columns (more ++ rest))) → NoFixed columns (more ++ c.rest)
+      → ((NoStaticPart columns more × (length more < 65538)) ⊎ ((rest : List ℕ) → NoStaticPart columns (more ++ rest))) → NoStaticPart columns (more ++ c.rest)
   no_part_there file w key more short e c full (inr never) = never c.rest
-  no_part_there file w key more short e c (inl whole) (inl (no_part, few)) = subst (NoFixed columns) (sym (ap (λ r. more ++ r) (c.ended whole) ∙ append-nil more)) no_part
+  no_part_there file w key more short e c (inl whole) (inl (no_part, few)) = subst (NoStaticPart columns) (sym (ap (λ r. more ++ r) (c.ended whole) ∙ append-nil more)) no_part
   no_part_there file w key more short e c (inr long) (inl (no_part, few)) = absurd (omega (arith, ap length e, length-append (head_bytes key) more))
 
-  pub halts_fixed : (walk walk' : Walk) (text key : List ℕ) (met : Met) (n : ℕ) → walk.inside ≡ false → HasEnough walk.window → BeginsHead columns walk.window.bytes key → n ≡ length (head_bytes key)
-      → NoFixedBehind columns (drop n walk.window.bytes) → met ≡ Stop → walk'.stop ≡ Some (damage_at (walk.window.at + n) BadRow) → StepIs columns walk walk' text text met
-  halts_fixed walk walk' text key met n outside full (string, (more, e)) size (static, no_part) is stop =
+  pub halts_static_part : (walk walk' : Walk) (text key : List ℕ) (met : Met) (n : ℕ) → walk.inside ≡ false → HasEnough walk.window → BeginsHead columns walk.window.bytes key → n ≡ length (head_bytes key)
+      → NoStaticPartBehind columns (drop n walk.window.bytes) → met ≡ Stop → walk'.stop ≡ Some (damage_at (walk.window.at + n) BadRow) → StepIs columns walk walk' text text met
+  halts_static_part walk walk' text key met n outside full (string, (more, e)) size (static, no_part) is stop =
       let w : Unread = walk.window in
       let rest : drop n w.bytes ≡ more = ap (λ (m : ℕ). drop m w.bytes) size ∙ ap (drop (length (head_bytes key))) e ∙ drop-append_seam (head_bytes key) more in
-      let told = subst (λ (bs : List ℕ). (NoFixed columns bs × (length bs < 65538)) ⊎ ((behind : List ℕ) → NoFixed columns (bs ++ behind))) rest no_part in
+      let told = subst (λ (bs : List ℕ). (NoStaticPart columns bs × (length bs < 65538)) ⊎ ((behind : List ℕ) → NoStaticPart columns (bs ++ behind))) rest no_part in
       stops_so walk walk' text met (damage_at (walk.window.at + length (head_bytes key)) BadRow) is (stop ∙ ap (λ (m : ℕ). Some (damage_at (walk.window.at + m) BadRow)) size) (
       λ file c.
       subst (λ (o : Option (List ℕ)). Stops columns file o walk.window.at [] (Some (damage_at (walk.window.at + length (head_bytes key)) BadRow))) (sym (is_outside walk outside))
-      (bad_fixed_stops columns file walk.window.at key (more ++ c.rest) string static (c.is ∙ ap (λ bs. bs ++ c.rest) e ∙ append_assoc (head_bytes key) more c.rest)
+      (bad_static_part_stops columns file walk.window.at key (more ++ c.rest) string static (c.is ∙ ap (λ bs. bs ++ c.rest) e ∙ append_assoc (head_bytes key) more c.rest)
       (no_part_there file w key more (string_length columns.partition key string) e c full told))
       )
 
@@ -213,9 +213,9 @@ module _ (columns : Columns) where
   prints_none walk walk' text moves = ([], refl, sym (append-nil text), moves)
 
   -- the static value of a partition, where it has one
-  pub prints_fixed : (walk walk' : Walk) (text text' : List ℕ) (fixed : Option (List ℕ)) → IsTextOf columns.partition walk'.key walk'.text
-      → text' ≡ text ++ entry_lines columns (static_entries walk'.key fixed) → Moves columns walk walk' (static_entries walk'.key fixed) → PrintsEntries columns 0 walk walk' text text'
-  prints_fixed walk walk' text text' fixed has line moves = (static_entries walk'.key fixed, fixed_count columns walk'.key walk'.text fixed has, line, moves)
+  pub prints_static_part : (walk walk' : Walk) (text text' : List ℕ) (static_part : Option (List ℕ)) → IsTextOf columns.partition walk'.key walk'.text
+      → text' ≡ text ++ entry_lines columns (static_entries walk'.key static_part) → Moves columns walk walk' (static_entries walk'.key static_part) → PrintsEntries columns 0 walk walk' text text'
+  prints_static_part walk walk' text text' static_part has line moves = (static_entries walk'.key static_part, static_part_count columns walk'.key walk'.text static_part has, line, moves)
 
 -- ---- the static part behind a head
 
@@ -225,15 +225,15 @@ no_static (Some type) e = cc
 
 module _ (columns : Columns) where
   -- a table without a static type has none, of no bytes
-  pub none_behind : (bytes : List ℕ) → is_some columns.static_value ≡ false → IsFixedBehind columns bytes None 0
+  pub none_behind : (bytes : List ℕ) → is_some columns.static_value ≡ false → IsStaticPartBehind columns bytes None 0
   none_behind bytes e =
       let is : columns.static_value ≡ None = no_static columns.static_value e in
-      (tt, ap (λ (o : Option ValueType). length (fixed_bytes o None)) (sym is), (bytes, ap (λ (o : Option ValueType). fixed_bytes o None ++ bytes) (sym is)))
+      (tt, ap (λ (o : Option ValueType). length (static_part_bytes o None)) (sym is), (bytes, ap (λ (o : Option ValueType). static_part_bytes o None ++ bytes) (sym is)))
 
   -- a refusal says that none begins there
   pub no_part : {X : Type 0} (bytes behind : List ℕ) (r : Result X ParseRow) (e : ParseRow) → behind ≡ bytes → IsSome columns.static_value → r ≡ Err e
-      → (r ≡ Err Short → NoFixed columns behind × (length behind < 65538)) → (r ≡ Err Bad → (more : List ℕ) → NoFixed columns (behind ++ more)) → ¬ (r ≡ Err NoMemory)
-      → NoFixedBehind columns bytes
-  no_part bytes behind r Short same some is short bad memory = (some, inl (subst (λ (bs : List ℕ). NoFixed columns bs × (length bs < 65538)) same (short is)))
-  no_part bytes behind r Bad same some is short bad memory = (some, inr (subst (λ (bs : List ℕ). (more : List ℕ) → NoFixed columns (bs ++ more)) same (bad is)))
+      → (r ≡ Err Short → NoStaticPart columns behind × (length behind < 65538)) → (r ≡ Err Bad → (more : List ℕ) → NoStaticPart columns (behind ++ more)) → ¬ (r ≡ Err NoMemory)
+      → NoStaticPartBehind columns bytes
+  no_part bytes behind r Short same some is short bad memory = (some, inl (subst (λ (bs : List ℕ). NoStaticPart columns bs × (length bs < 65538)) same (short is)))
+  no_part bytes behind r Bad same some is short bad memory = (some, inr (subst (λ (bs : List ℕ). (more : List ℕ) → NoStaticPart columns (bs ++ more)) same (bad is)))
   no_part bytes behind r NoMemory same some is short bad memory = absurd (memory is)

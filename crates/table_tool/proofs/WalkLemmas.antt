@@ -7,11 +7,11 @@ use Rattle.data_file.specs.Answers.{damage_at}
 use Rattle.key_types.specs.Columns.{Columns}
 use Rattle.key_decode.specs.Strings.{IsStringOf}
 use Rattle.key_types.specs.declared.schema.ValueType.{ValueType}
-use Rattle.data_file.specs.Listing.{head_bytes, fixed_bytes, row_bytes, static_bytes, IsFixed, IsRow}
-use Rattle.data_file.specs.Reading.{NoFixed, NoHead, NoRow}
+use Rattle.data_file.specs.Listing.{head_bytes, static_part_bytes, row_bytes, static_bytes, FitsStaticType, IsRow}
+use Rattle.data_file.specs.Reading.{NoStaticPart, NoHead, NoRow}
 use Rattle.length_prefix.proofs.Counts.{counted-same}
-use Rattle.data_file.proofs.Unique.{fixed_front, row_front}
-use Rattle.table_files.specs.Walk.{Walks, ends, bad_head, bad_fixed, head, row, closes, bad_row, Passes, Stops}
+use Rattle.data_file.proofs.Unique.{static_part_front, row_front}
+use Rattle.table_files.specs.Walk.{Walks, ends, bad_head, bad_static_part, head, row, closes, bad_row, Passes, Stops}
 use Rattle.table_tool.proofs.WindowLemmas.{behind}
 use Rattle.table_files.specs.Standing.{static_entries}
 
@@ -23,41 +23,41 @@ module _ (columns : Columns) where
   Goes entries inside at rest all stop = (more : List Entry) × (all ≡ entries ++ more) × Walks columns inside at rest more stop
 
   -- a head and a static part behind it are the only ones
-  heads_same : (key key' : List ℕ) (fixed fixed' : Option (List ℕ)) (rest rest' : List ℕ) → IsFixed columns.static_value fixed → IsFixed columns.static_value fixed'
-      → (head_bytes key ++ fixed_bytes columns.static_value fixed) ++ rest ≡ (head_bytes key' ++ fixed_bytes columns.static_value fixed') ++ rest'
-      → (key ≡ key') × (fixed ≡ fixed') × (rest ≡ rest')
-  heads_same key key' fixed fixed' rest rest' f f' e =
-      let heads = counted-same key key' (fixed_bytes columns.static_value fixed ++ rest) (fixed_bytes columns.static_value fixed' ++ rest')
-      (sym (append_assoc (head_bytes key) (fixed_bytes columns.static_value fixed) rest) ∙ e ∙ append_assoc (head_bytes key') (fixed_bytes columns.static_value fixed') rest') in
-      let parts = fixed_front columns.static_value fixed fixed' rest rest' f f' heads.1 in
+  heads_same : (key key' : List ℕ) (static_part static_part' : Option (List ℕ)) (rest rest' : List ℕ) → FitsStaticType columns.static_value static_part → FitsStaticType columns.static_value static_part'
+      → (head_bytes key ++ static_part_bytes columns.static_value static_part) ++ rest ≡ (head_bytes key' ++ static_part_bytes columns.static_value static_part') ++ rest'
+      → (key ≡ key') × (static_part ≡ static_part') × (rest ≡ rest')
+  heads_same key key' static_part static_part' rest rest' f f' e =
+      let heads = counted-same key key' (static_part_bytes columns.static_value static_part ++ rest) (static_part_bytes columns.static_value static_part' ++ rest')
+      (sym (append_assoc (head_bytes key) (static_part_bytes columns.static_value static_part) rest) ∙ e ∙ append_assoc (head_bytes key') (static_part_bytes columns.static_value static_part') rest') in
+      let parts = static_part_front columns.static_value static_part static_part' rest rest' f f' heads.1 in
       (heads.0, parts.0, parts.1)
 
-  is_static : (static : Option ValueType) (fixed : Option (List ℕ)) → IsSome static → fixed_bytes static fixed ≡ static_bytes fixed
-  is_static None fixed some = cc
-  is_static (Some type) fixed some = refl
+  is_static : (static : Option ValueType) (static_part : Option (List ℕ)) → IsSome static → static_part_bytes static static_part ≡ static_bytes static_part
+  is_static None static_part some = cc
+  is_static (Some type) static_part some = refl
 
   -- where no static part begins, none stands behind the head
-  fixed_apart : (key key' : List ℕ) (fixed : Option (List ℕ)) (rest rest' : List ℕ) → IsFixed columns.static_value fixed → IsSome columns.static_value → NoFixed columns rest'
-      → (head_bytes key ++ fixed_bytes columns.static_value fixed) ++ rest ≡ head_bytes key' ++ rest' → ⊥
-  fixed_apart key key' fixed rest rest' f some no_part e =
-      let heads = counted-same key key' (fixed_bytes columns.static_value fixed ++ rest) rest' (sym (append_assoc (head_bytes key) (fixed_bytes columns.static_value fixed) rest) ∙ e) in
-      no_part fixed (f, (rest, sym heads.1 ∙ ap (λ bs. bs ++ rest) (is_static columns.static_value fixed some)))
+  static_part_apart : (key key' : List ℕ) (static_part : Option (List ℕ)) (rest rest' : List ℕ) → FitsStaticType columns.static_value static_part → IsSome columns.static_value → NoStaticPart columns rest'
+      → (head_bytes key ++ static_part_bytes columns.static_value static_part) ++ rest ≡ head_bytes key' ++ rest' → ⊥
+  static_part_apart key key' static_part rest rest' f some no_part e =
+      let heads = counted-same key key' (static_part_bytes columns.static_value static_part ++ rest) rest' (sym (append_assoc (head_bytes key) (static_part_bytes columns.static_value static_part) rest) ∙ e) in
+      no_part static_part (f, (rest, sym heads.1 ∙ ap (λ bs. bs ++ rest) (is_static columns.static_value static_part some)))
 
-  head_only : (at : ℕ) (key : List ℕ) (fixed : Option (List ℕ)) (bytes rest : List ℕ) (all : List Entry) (stop : Option Damage) → IsStringOf columns.partition key
-      → IsFixed columns.static_value fixed → bytes ≡ (head_bytes key ++ fixed_bytes columns.static_value fixed) ++ rest → Walks columns None at bytes all stop
-      → Goes (static_entries key fixed) (Some key) (at + length (head_bytes key ++ fixed_bytes columns.static_value fixed)) rest all stop
-  head_only at key fixed bytes rest all stop is f e (ends _) = cc
-  head_only at key fixed bytes rest all stop is f e (bad_head _ _ some no_head) =
-      absurd (no_head key (is, (fixed_bytes columns.static_value fixed ++ rest, e ∙ append_assoc (head_bytes key) (fixed_bytes columns.static_value fixed) rest)))
-  head_only at key fixed bytes rest all stop is f e (head _ key' fixed' _ rest' entries _ is' f' e' walk) =
-      let same = heads_same key' key fixed' fixed rest' rest f' f (sym e' ∙ e) in (
+  head_only : (at : ℕ) (key : List ℕ) (static_part : Option (List ℕ)) (bytes rest : List ℕ) (all : List Entry) (stop : Option Damage) → IsStringOf columns.partition key
+      → FitsStaticType columns.static_value static_part → bytes ≡ (head_bytes key ++ static_part_bytes columns.static_value static_part) ++ rest → Walks columns None at bytes all stop
+      → Goes (static_entries key static_part) (Some key) (at + length (head_bytes key ++ static_part_bytes columns.static_value static_part)) rest all stop
+  head_only at key static_part bytes rest all stop is f e (ends _) = cc
+  head_only at key static_part bytes rest all stop is f e (bad_head _ _ some no_head) =
+      absurd (no_head key (is, (static_part_bytes columns.static_value static_part ++ rest, e ∙ append_assoc (head_bytes key) (static_part_bytes columns.static_value static_part) rest)))
+  head_only at key static_part bytes rest all stop is f e (head _ key' static_part' _ rest' entries _ is' f' e' walk) =
+      let same = heads_same key' key static_part' static_part rest' rest f' f (sym e' ∙ e) in (
         entries,
         (λ i. static_entries (same.0 i) (same.1 i) ++ entries),
-        subst (λ (r : List ℕ). Walks columns (Some key) (at + length (head_bytes key ++ fixed_bytes columns.static_value fixed)) r entries stop) same.2
-            (subst (λ (o : Option (List ℕ)). Walks columns (Some key) (at + length (head_bytes key ++ fixed_bytes columns.static_value o)) rest' entries stop) same.1
-            (subst (λ (k : List ℕ). Walks columns (Some k) (at + length (head_bytes k ++ fixed_bytes columns.static_value fixed')) rest' entries stop) same.0 walk)),
+        subst (λ (r : List ℕ). Walks columns (Some key) (at + length (head_bytes key ++ static_part_bytes columns.static_value static_part)) r entries stop) same.2
+            (subst (λ (o : Option (List ℕ)). Walks columns (Some key) (at + length (head_bytes key ++ static_part_bytes columns.static_value o)) rest' entries stop) same.1
+            (subst (λ (k : List ℕ). Walks columns (Some k) (at + length (head_bytes k ++ static_part_bytes columns.static_value static_part')) rest' entries stop) same.0 walk)),
       )
-  head_only at key fixed bytes rest all stop is f e (bad_fixed _ key' _ rest' is' some e' no_part) = absurd (fixed_apart key key' fixed rest rest' f some no_part (sym e ∙ e'))
+  head_only at key static_part bytes rest all stop is f e (bad_static_part _ key' _ rest' is' some e' no_part) = absurd (static_part_apart key key' static_part rest rest' f some no_part (sym e ∙ e'))
 
   row_only : (at : ℕ) (key c v bytes rest : List ℕ) (all : List Entry) (stop : Option Damage) → IsRow columns c v → bytes ≡ row_bytes c v ++ rest
       → Walks columns (Some key) at bytes all stop → Goes ((key ++ c, v) ∷ []) (Some key) (at + length (row_bytes c v)) rest all stop
@@ -82,23 +82,23 @@ module _ (columns : Columns) where
   file_end_only : (at : ℕ) (bytes : List ℕ) (all : List Entry) (stop : Option Damage) → bytes ≡ [] → Walks columns None at bytes all stop → (all ≡ []) × (stop ≡ None)
   file_end_only at bytes all stop e (ends _) = (refl, refl)
   file_end_only at bytes all stop e (bad_head _ _ some none) = absurd (some e)
-  file_end_only at bytes all stop e (head _ key fixed _ rest _ _ is f e' walk) = cc
-  file_end_only at bytes all stop e (bad_fixed _ key _ rest is some e' no_part) = cc
+  file_end_only at bytes all stop e (head _ key static_part _ rest _ _ is f e' walk) = cc
+  file_end_only at bytes all stop e (bad_static_part _ key _ rest is some e' no_part) = cc
 
   bad_head_only : (at : ℕ) (bytes : List ℕ) (all : List Entry) (stop : Option Damage) → bytes ≢ [] → NoHead columns bytes
       → Walks columns None at bytes all stop → (all ≡ []) × (stop ≡ Some (damage_at at BadHead))
   bad_head_only at bytes all stop some none (ends _) = absurd (some refl)
   bad_head_only at bytes all stop some none (bad_head _ _ some' none') = (refl, refl)
-  bad_head_only at bytes all stop some none (head _ key fixed _ rest _ _ is f e walk) =
-      absurd (none key (is, (fixed_bytes columns.static_value fixed ++ rest, e ∙ append_assoc (head_bytes key) (fixed_bytes columns.static_value fixed) rest)))
-  bad_head_only at bytes all stop some none (bad_fixed _ key _ rest is _ e no_part) = absurd (none key (is, (rest, e)))
+  bad_head_only at bytes all stop some none (head _ key static_part _ rest _ _ is f e walk) =
+      absurd (none key (is, (static_part_bytes columns.static_value static_part ++ rest, e ∙ append_assoc (head_bytes key) (static_part_bytes columns.static_value static_part) rest)))
+  bad_head_only at bytes all stop some none (bad_static_part _ key _ rest is _ e no_part) = absurd (none key (is, (rest, e)))
 
-  bad_fixed_only : (at : ℕ) (key bytes rest : List ℕ) (all : List Entry) (stop : Option Damage) → IsStringOf columns.partition key → IsSome columns.static_value
-      → bytes ≡ head_bytes key ++ rest → NoFixed columns rest → Walks columns None at bytes all stop → (all ≡ []) × (stop ≡ Some (damage_at (at + length (head_bytes key)) BadRow))
-  bad_fixed_only at key bytes rest all stop is some e no_part (ends _) = cc
-  bad_fixed_only at key bytes rest all stop is some e no_part (bad_head _ _ some' no_head) = absurd (no_head key (is, (rest, e)))
-  bad_fixed_only at key bytes rest all stop is some e no_part (head _ key' fixed' _ rest' entries _ is' f' e' walk) = absurd (fixed_apart key' key fixed' rest' rest f' some no_part (sym e' ∙ e))
-  bad_fixed_only at key bytes rest all stop is some e no_part (bad_fixed _ key' _ rest' is' some' e' no_part') =
+  bad_static_part_only : (at : ℕ) (key bytes rest : List ℕ) (all : List Entry) (stop : Option Damage) → IsStringOf columns.partition key → IsSome columns.static_value
+      → bytes ≡ head_bytes key ++ rest → NoStaticPart columns rest → Walks columns None at bytes all stop → (all ≡ []) × (stop ≡ Some (damage_at (at + length (head_bytes key)) BadRow))
+  bad_static_part_only at key bytes rest all stop is some e no_part (ends _) = cc
+  bad_static_part_only at key bytes rest all stop is some e no_part (bad_head _ _ some' no_head) = absurd (no_head key (is, (rest, e)))
+  bad_static_part_only at key bytes rest all stop is some e no_part (head _ key' static_part' _ rest' entries _ is' f' e' walk) = absurd (static_part_apart key' key static_part' rest' rest f' some no_part (sym e' ∙ e))
+  bad_static_part_only at key bytes rest all stop is some e no_part (bad_static_part _ key' _ rest' is' some' e' no_part') =
       let same = counted-same key' key rest' rest (sym e' ∙ e) in (refl, ap (λ (k : List ℕ). Some (damage_at (at + length (head_bytes k)) BadRow)) same.0)
 
   bad_row_only : (at : ℕ) (key bytes : List ℕ) (all : List Entry) (stop : Option Damage) → NoRow columns bytes
@@ -119,14 +119,14 @@ module _ (columns : Columns) where
     goes_there inside at front rest entries all stop e (more, is, walk) =
         (more, is, subst (λ (r : List ℕ). Walks columns inside (at + length front) r more stop) (sym (behind file front rest at e)) walk)
 
-    pub head_passes : (at : ℕ) (key : List ℕ) (fixed : Option (List ℕ)) (rest : List ℕ) → IsStringOf columns.partition key → IsFixed columns.static_value fixed
-        → drop at file ≡ (head_bytes key ++ fixed_bytes columns.static_value fixed) ++ rest
-        → Passes columns file None at (static_entries key fixed) (Some key) (at + length (head_bytes key ++ fixed_bytes columns.static_value fixed))
-    head_passes at key fixed rest is f e =
-        let front : List ℕ = head_bytes key ++ fixed_bytes columns.static_value fixed in
+    pub head_passes : (at : ℕ) (key : List ℕ) (static_part : Option (List ℕ)) (rest : List ℕ) → IsStringOf columns.partition key → FitsStaticType columns.static_value static_part
+        → drop at file ≡ (head_bytes key ++ static_part_bytes columns.static_value static_part) ++ rest
+        → Passes columns file None at (static_entries key static_part) (Some key) (at + length (head_bytes key ++ static_part_bytes columns.static_value static_part))
+    head_passes at key static_part rest is f e =
+        let front : List ℕ = head_bytes key ++ static_part_bytes columns.static_value static_part in
         record {
-          onward = λ more stop walk. head at key fixed (drop at file) rest more stop is f e (moved (Some key) at front rest more stop e walk);
-          only = λ all stop walk. goes_there (Some key) at front rest (static_entries key fixed) all stop e (head_only at key fixed (drop at file) rest all stop is f e walk);
+          onward = λ more stop walk. head at key static_part (drop at file) rest more stop is f e (moved (Some key) at front rest more stop e walk);
+          only = λ all stop walk. goes_there (Some key) at front rest (static_entries key static_part) all stop e (head_only at key static_part (drop at file) rest all stop is f e walk);
         }
 
     pub row_passes : (at : ℕ) (key c v rest : List ℕ) → IsRow columns c v → drop at file ≡ row_bytes c v ++ rest
@@ -154,11 +154,11 @@ module _ (columns : Columns) where
       only = λ all other walk. bad_head_only at (drop at file) all other some none walk;
     }
 
-    pub bad_fixed_stops : (at : ℕ) (key rest : List ℕ) → IsStringOf columns.partition key → IsSome columns.static_value → drop at file ≡ head_bytes key ++ rest → NoFixed columns rest
+    pub bad_static_part_stops : (at : ℕ) (key rest : List ℕ) → IsStringOf columns.partition key → IsSome columns.static_value → drop at file ≡ head_bytes key ++ rest → NoStaticPart columns rest
         → Stops columns file None at [] (Some (damage_at (at + length (head_bytes key)) BadRow))
-    bad_fixed_stops at key rest is some e no_part = record {
-      here = bad_fixed at key (drop at file) rest is some e no_part;
-      only = λ all other walk. bad_fixed_only at key (drop at file) rest all other is some e no_part walk;
+    bad_static_part_stops at key rest is some e no_part = record {
+      here = bad_static_part at key (drop at file) rest is some e no_part;
+      only = λ all other walk. bad_static_part_only at key (drop at file) rest all other is some e no_part walk;
     }
 
     pub bad_row_stops : (at : ℕ) (key : List ℕ) → NoRow columns (drop at file) → Stops columns file (Some key) at [] (Some (damage_at at BadRow))

@@ -9,7 +9,7 @@ use Rattle.std.specs.FinMap as map
 use Rattle.outside.specs.Told.{WhereTold}
 use Rattle.outside.specs.Files.{Files, bytes_of, file_cmp, file_cmp_total, part_at, part_at-place_of, place_of}
 use Rattle.outside.specs.declared.store.FileId.{FileId}
-use Rattle.data_file.specs.Writing.{Finishes, Grown, Puts, PutsAllBut}
+use Rattle.data_file.specs.Writing.{AppendsWhole, GrowsBy, PutsButHeld, PutsAllBut}
 
 -- ---- a file set in the files
 
@@ -69,18 +69,18 @@ set_more xs ys zs file a b first second =
     ∙ insert-twice xs file (bytes_of xs file ++ a) ((bytes_of xs file ++ a) ++ b)
     ∙ ap (λ (bs : List ℕ). map.insert xs file bs) (append_assoc (bytes_of xs file) a b)
 
-set_behind : (xs ys zs : Files) (file : FileId) (a b : List ℕ) → Grown xs ys file a → zs ≡ map.insert ys file (bytes_of ys file ++ b)
+set_behind : (xs ys zs : Files) (file : FileId) (a b : List ℕ) → GrowsBy xs ys file a → zs ≡ map.insert ys file (bytes_of ys file ++ b)
     → zs ≡ map.insert xs file (bytes_of xs file ++ (a ++ b))
 set_behind xs ys zs file a b (inl first) second = set_more xs ys zs file a b first second
 set_behind xs ys zs file a b (inr (none, same)) second =
     second ∙ ap (λ (m : Files). map.insert m file (bytes_of m file ++ b)) same
     ∙ ap (λ (bs : List ℕ). map.insert xs file (bytes_of xs file ++ (bs ++ b))) (sym none)
 
-grown_more : (xs ys zs : Files) (file : FileId) (a b : List ℕ) → Grown xs ys file a → Grown ys zs file b → Grown xs zs file (a ++ b)
+grown_more : (xs ys zs : Files) (file : FileId) (a b : List ℕ) → GrowsBy xs ys file a → GrowsBy ys zs file b → GrowsBy xs zs file (a ++ b)
 grown_more xs ys zs file a b first (inl second) = inl (set_behind xs ys zs file a b first second)
 grown_more xs ys zs file a b first (inr (none, same)) =
-    subst (λ (m : Files). Grown xs m file (a ++ b)) (sym same) (subst (λ (bs : List ℕ). Grown xs ys file (a ++ bs)) (sym none)
-    (subst (λ (bs : List ℕ). Grown xs ys file bs) (sym (append-nil a)) first))
+    subst (λ (m : Files). GrowsBy xs m file (a ++ b)) (sym same) (subst (λ (bs : List ℕ). GrowsBy xs ys file (a ++ bs)) (sym none)
+    (subst (λ (bs : List ℕ). GrowsBy xs ys file bs) (sym (append-nil a)) first))
 
 joined_put : (xs ys zs : Files) (file : FileId) (p0 a p1 b p2 : List ℕ) → PutsAllBut xs ys file (p0 ++ a) p1 → PutsAllBut ys zs file (p1 ++ b) p2
     → PutsAllBut xs zs file (p0 ++ (a ++ b)) p2
@@ -125,11 +125,11 @@ PutSome f0 f1 file bytes = WhereTold f0 f1 (λ xs ys. (left : List ℕ) × PutsA
 abbrev pub Set : Option Files → Option Files → FileId → List ℕ → Type 0
 Set f0 f1 file bytes = WhereTold f0 f1 (λ xs ys. ys ≡ map.insert xs file (bytes_of xs file ++ bytes))
 
-pub failed : {T E : Type 0} (f0 f1 : Option Files) (file : FileId) (r : Result T E) (bytes held : List ℕ) → IsErr r → PutSome f0 f1 file bytes → Puts f0 f1 file r bytes held
+pub failed : {T E : Type 0} (f0 f1 : Option Files) (file : FileId) (r : Result T E) (bytes held : List ℕ) → IsErr r → PutSome f0 f1 file bytes → PutsButHeld f0 f1 file r bytes held
 failed f0 f1 file (Ok x) bytes held bad some = cc
 failed f0 f1 file (Err e) bytes held bad some = some
 
-pub failed_finish : {T E : Type 0} (f0 f1 : Option Files) (file : FileId) (r : Result T E) (bytes : List ℕ) → IsErr r → PutSome f0 f1 file bytes → Finishes f0 f1 file r bytes
+pub failed_finish : {T E : Type 0} (f0 f1 : Option Files) (file : FileId) (r : Result T E) (bytes : List ℕ) → IsErr r → PutSome f0 f1 file bytes → AppendsWhole f0 f1 file r bytes
 failed_finish f0 f1 file (Ok x) bytes bad some = cc
 failed_finish f0 f1 file (Err e) bytes bad some = some
 
@@ -151,7 +151,7 @@ second_failed f0 f1 f2 file other p0 a p1 b is first second =
 
 -- a piece, and then another, whatever came of it
 pub then_puts : {T E : Type 0} (f0 f1 f2 : Option Files) (file other : FileId) (r : Result T E) (p0 a p1 b p2 : List ℕ) → other ≡ file
-    → Put f0 f1 file (p0 ++ a) p1 → Puts f1 f2 other r (p1 ++ b) p2 → Puts f0 f2 file r (p0 ++ (a ++ b)) p2
+    → Put f0 f1 file (p0 ++ a) p1 → PutsButHeld f1 f2 other r (p1 ++ b) p2 → PutsButHeld f0 f2 file r (p0 ++ (a ++ b)) p2
 then_puts f0 f1 f2 file other (Ok x) p0 a p1 b p2 is first second = both_pieces f0 f1 f2 file other p0 a p1 b p2 is first second
 then_puts f0 f1 f2 file other (Err e) p0 a p1 b p2 is first second = second_failed f0 f1 f2 file other p0 a p1 b is first second
 
@@ -164,7 +164,7 @@ first_failed f0 f1 file p0 a b first =
 
 -- of the whole all but the held bytes and the rest was put
 abbrev pub IsLeft : Files → Files → FileId → List ℕ → List ℕ → List ℕ → Type 0
-IsLeft xs ys file held rest whole = (front : List ℕ) × (whole ≡ front ++ (held ++ rest)) × Grown xs ys file front
+IsLeft xs ys file held rest whole = (front : List ℕ) × (whole ≡ front ++ (held ++ rest)) × GrowsBy xs ys file front
 
 abbrev pub Left : Option Files → Option Files → FileId → List ℕ → List ℕ → List ℕ → Type 0
 Left f0 f1 file held rest whole = WhereTold f0 f1 (λ xs ys. IsLeft xs ys file held rest whole)

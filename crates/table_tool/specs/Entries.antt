@@ -6,13 +6,13 @@ use Rattle.key_types.specs.Table.{Entry}
 use Rattle.key_decode.specs.Reading.{values_at}
 
 -- what stands behind the components that were read; nothing where none were
-abbrev pub rest_of : Result (Vals × List ℕ) ℕ → List ℕ
-rest_of (Ok found) = found.1
-rest_of (Err left) = []
+abbrev pub rest_behind : Result (Vals × List ℕ) ℕ → List ℕ
+rest_behind (Ok found) = found.1
+rest_behind (Err left) = []
 
 -- the string of the row within its partition, which is empty for a static value
 abbrev pub clustering_in : Columns → List ℕ → List ℕ
-clustering_in columns string = rest_of (values_at columns.partition string)
+clustering_in columns string = rest_behind (values_at columns.partition string)
 
 -- the string of the partition
 abbrev pub partition_in : Columns → List ℕ → List ℕ

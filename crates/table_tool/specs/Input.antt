@@ -5,7 +5,7 @@ use Rattle.outside.specs.Told.{WhereTold}
 use Rattle.script_text.specs.declared.script.Script.{Script}
 use Rattle.script_text.specs.declared.script.ScriptError.{ScriptError}
 use Rattle.script_text.specs.declared.script.ScriptError.TheVariants as script_error
-use Rattle.script_text.specs.Script.{script_of}
+use Rattle.script_text.specs.Script.{most_bytes, script_of}
 use Rattle.table_tool.specs.declared.input.InputError.{InputError}
 use Rattle.table_tool.specs.declared.input.InputError.TheVariants.{Fault, TooLarge, NoMemory}
 use Rattle.table_tool.specs.declared.status.Status.{Status}
@@ -13,8 +13,8 @@ use Rattle.table_tool.specs.declared.status.Status.TheVariants as status
 
 -- all bytes of the source, where they are at most 67,108,864; TooLarge only where there are more
 abbrev pub ReadIs : Result (List ℕ) InputError → List ℕ → Type 0
-ReadIs (Ok all) bytes = (all ≡ bytes) × (length bytes ≤ 67108864)
-ReadIs (Err TooLarge) bytes = 67108864 < length bytes
+ReadIs (Ok all) bytes = (all ≡ bytes) × (length bytes ≤ most_bytes)
+ReadIs (Err TooLarge) bytes = most_bytes < length bytes
 ReadIs (Err Fault) bytes = Unit {0}
 ReadIs (Err NoMemory) bytes = Unit {0}
 

@@ -1,12 +1,13 @@
 -- What two runs, one behind the other, come to.
-use Rattle.std.specs.Prelude.{◌≡◌, ℕ, List, ◌++◌, Option, Some, Result, Ok}
+use Rattle.std.specs.Prelude.{◌≡◌, ℕ, List, ◌++◌, Option, Some}
 use Rattle.std.specs.declared.string.String.{String}
 use Rattle.std.specs.declared.alloc.Global.{Global}
 use Rattle.outside.specs.Files.{Files}
 use Rattle.outside.specs.Told.{WhereTold}
 use Rattle.key_types.specs.Columns.{Columns}
-use Rattle.script_text.specs.declared.script.Script.{Script}
-use Rattle.script_text.specs.Script.{puts_of, script_of}
+use Rattle.script_text.specs.Puts.{Put}
+use Rattle.script_text.specs.Lines.{lines_of}
+use Rattle.script_text.specs.Meaning.{AreAcceptedLines}
 use Rattle.table_tool.specs.declared.status.Status.{Status}
 use Rattle.table_tool.specs.declared.status.Status.TheVariants as status
 use Rattle.table_tool.specs.Outside.{Outside, SinkFails, StoreFails}
@@ -16,12 +17,12 @@ use Rattle.table_tool.specs.Request.{AskLoad, AskScan}
 use Rattle.table_tool.specs.Rows.{rows_of}
 use Rattle.table_tool.specs.Run.{RunEnds}
 
--- These bytes are a script under these columns. Where a run printed it was Ok, and then exactly the rows and static values of the sorted map of all its puts,
--- and how many rows there are.
+-- The lines of these bytes are those of a script under these columns. A run that was Ok printed exactly the rows and static
+-- values of the sorted map of all their puts, and how many rows there are.
 pub record PrintsAllPuts (columns : Columns) (bytes : List ℕ) (before after : Outside) (result : Status) : Type 0 where
-  pub script : Script
-  pub accepted : script_of columns bytes ≡ Ok script
-  pub printed : result ≡ status.Ok → WhereTold before.written after.written (λ old new. new ≡ old ++ rows_text columns (rows_of (puts_of script.batches)))
+  pub puts : List Put
+  pub accepted : AreAcceptedLines columns 1 (lines_of bytes) puts
+  pub printed : result ≡ status.Ok → WhereTold before.written after.written (λ old new. new ≡ old ++ rows_text columns (rows_of puts))
   -- where neither store nor sink failed, it was Ok, want of memory aside
   pub complete : ¬ (StoreFails before after) → ¬ (SinkFails before after) → IsOrNoMemory status.Ok result
 

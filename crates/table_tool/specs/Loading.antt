@@ -191,6 +191,6 @@ StopsLoad status.SinkFault = ⊥
 StopsLoad result = IsOfLoad result
 
 -- the line of the files that were added, or the status that the script gives
-abbrev pub Loads : Columns → Result (List ℕ) Status → Result (List Put) Status → Option Files → Option Files → Type 0
-Loads columns (Ok line) expected files files' = (puts : List Put) × (expected ≡ Ok puts) × Loaded columns puts files files' line
-Loads columns (Err result) expected files files' = Refused expected result
+abbrev pub LoadsOrRefuses : Columns → Result (List ℕ) Status → Result (List Put) Status → Option Files → Option Files → Type 0
+LoadsOrRefuses columns (Ok line) expected files files' = (puts : List Put) × (expected ≡ Ok puts) × Loaded columns puts files files' line
+LoadsOrRefuses columns (Err result) expected files files' = Refused expected result

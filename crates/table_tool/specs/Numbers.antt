@@ -4,16 +4,16 @@ use Rattle.table_tool.specs.declared.status.Status.{Status}
 use Rattle.table_tool.specs.declared.status.Status.TheVariants as status
 
 -- the number of a status
-abbrev pub number_of : Status → ℕ
-number_of status.Ok = 0
-number_of status.Usage = 1
-number_of status.Key = 1
-number_of (status.BadLine line cause) = 2
-number_of status.SourceFault = 4
-number_of status.SinkFault = 5
-number_of status.StoreFault = 6
-number_of (status.Damaged damage) = 7
-number_of status.Unfinished = 8
-number_of status.Exists = 9
-number_of status.TooLarge = 10
-number_of status.NoMemory = 12
+abbrev pub status_number : Status → ℕ
+status_number status.Ok = 0
+status_number status.Usage = 1
+status_number status.Key = 1
+status_number (status.BadLine line cause) = 2
+status_number status.SourceFault = 4
+status_number status.SinkFault = 5
+status_number status.StoreFault = 6
+status_number (status.Damaged damage) = 7
+status_number status.Unfinished = 8
+status_number status.Exists = 9
+status_number status.TooLarge = 10
+status_number status.NoMemory = 12

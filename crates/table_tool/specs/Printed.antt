@@ -63,6 +63,6 @@ pub record KeysAreNamed : Type 0 where
   pub row : (columns : Columns) (partition clustering : Vals) (value : List ℕ) → EachFits columns.partition partition → EachFits columns.clustering clustering
       → (entry_line columns (key_string columns.partition partition ++ key_string columns.clustering clustering, value) ≡ row_line columns partition clustering value)
       × (is_row columns (key_string columns.partition partition ++ key_string columns.clustering clustering, value) ≡ true)
-  pub fixed : (columns : Columns) (type : ValueType) (partition : Vals) (value : List ℕ) → columns.static_value ≡ Some type → EachFits columns.partition partition
+  pub static_part : (columns : Columns) (type : ValueType) (partition : Vals) (value : List ℕ) → columns.static_value ≡ Some type → EachFits columns.partition partition
       → (entry_line columns (key_string columns.partition partition, value) ≡ static_line columns type partition value)
       × (is_row columns (key_string columns.partition partition, value) ≡ false)

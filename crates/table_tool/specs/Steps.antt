@@ -4,8 +4,8 @@ use Rattle.key_types.specs.Columns.{Columns}
 use Rattle.key_types.specs.Table.{Entry}
 use Rattle.key_printing.specs.Texts.{IsTextOf}
 use Rattle.bti_nodes.specs.declared.damage.Damage.{Damage}
-use Rattle.data_file.specs.Listing.{IsFixed, fixed_bytes}
-use Rattle.data_file.specs.Reading.{NoFixed}
+use Rattle.data_file.specs.Listing.{FitsStaticType, static_part_bytes}
+use Rattle.data_file.specs.Reading.{NoStaticPart}
 use Rattle.table_tool.specs.declared.walk.Walk.{Walk}
 use Rattle.table_tool.specs.declared.walk.Met.{Met}
 use Rattle.table_tool.specs.declared.walk.Met.TheVariants.{Row, Border, Stop}
@@ -48,11 +48,11 @@ module _ (columns : Columns) where
 -- ---- the static part behind a head
 
 -- the bytes begin with the static part of this value, which has so many bytes; without a static type it has none
-abbrev pub IsFixedBehind : Columns → List ℕ → Option (List ℕ) → ℕ → Type 0
-IsFixedBehind columns bytes fixed count = IsFixed columns.static_value fixed × (count ≡ length (fixed_bytes columns.static_value fixed))
-    × ((rest : List ℕ) × (bytes ≡ fixed_bytes columns.static_value fixed ++ rest))
+abbrev pub IsStaticPartBehind : Columns → List ℕ → Option (List ℕ) → ℕ → Type 0
+IsStaticPartBehind columns bytes static_part count = FitsStaticType columns.static_value static_part × (count ≡ length (static_part_bytes columns.static_value static_part))
+    × ((rest : List ℕ) × (bytes ≡ static_part_bytes columns.static_value static_part ++ rest))
 
 -- the table has a static type, and no static part begins there: whatever follows, or with too few bytes for the longest
-abbrev pub NoFixedBehind : Columns → List ℕ → Type 0
-NoFixedBehind columns bytes = IsSome columns.static_value
-    × ((NoFixed columns bytes × (length bytes < 65538)) ⊎ ((more : List ℕ) → NoFixed columns (bytes ++ more)))
+abbrev pub NoStaticPartBehind : Columns → List ℕ → Type 0
+NoStaticPartBehind columns bytes = IsSome columns.static_value
+    × ((NoStaticPart columns bytes × (length bytes < 65538)) ⊎ ((more : List ℕ) → NoStaticPart columns (bytes ++ more)))

@@ -3,16 +3,18 @@ ghost use Rattle.std.specs.Prelude.{◌≡◌, ◌<◌, ◌≤◌, ◌+◌, ◌^
 ghost use Rattle.std.specs.Option.{option_copied};
 ghost use Rattle.outside.specs.Causes.{Rose};
 ghost use Rattle.key_types.specs.Columns.{columns_of};
-ghost use Rattle.data_file.specs.Listing.{data_bytes, fixed_bytes, head_bytes};
-ghost use Rattle.data_file.specs.Writing.{Finishes, Puts};
+ghost use Rattle.byte_comparable.specs.Strings.{longest_string};
+ghost use Rattle.script_text.specs.Script.{most_lines};
+ghost use Rattle.data_file.specs.Listing.{data_bytes, static_part_bytes, head_bytes};
+ghost use Rattle.data_file.specs.Writing.{AppendsWhole, PutsButHeld};
 ghost use Rattle.table_tool.specs.Entries.{row_count};
 ghost use Rattle.table_files.specs.Names.{data_id};
 ghost use Rattle.table_tool.specs.First.{first_generation};
-ghost use Rattle.table_tool.specs.Grouping.{AreTableEntries, grouped, begins, begun_at, before_row, end_behind, fixed_by, written_row};
+ghost use Rattle.table_tool.specs.Grouping.{AreTableEntries, grouped, begun_at, before_row, end_behind, static_part_by, written_row};
 ghost use Rattle.table_tool.specs.Loading.{Flushes};
 
 use crate::first::FIRST_GENERATION;
-use crate::parts::{part, row_at};
+use crate::parts::{begins, part, row_at};
 use crate::table::Rows;
 use bti_nodes::PackError;
 use data_file::{Counts, DataWriter};
@@ -20,16 +22,6 @@ use key_types::Schema;
 use outside::Store;
 use std::alloc::Global;
 use table_files::{data_id, schema_file_text, schema_id};
-
-/// Whether an entry of this partition begins it, behind an entry of the open one.
-fn begins(last: Option<&[u8]>, partition: &[u8]) -> bool
-    ensures { result ≡ begins (option_copied last.entry) partition.now }
-{
-    match last {
-        Some(before) => before != partition,
-        None => true,
-    }
-}
 
 /// Ends the open partition, where there is one.
 fn end_partition<K: Store>(
@@ -40,7 +32,7 @@ fn end_partition<K: Store>(
     requires { writer.old.position < 2 ^ 60 }
     ensures position { OnOk result (writer.new.position ≡ writer.old.position + length (end_behind (option_copied last.entry))) }
     ensures file { writer.new.file ≡ writer.old.file }
-    ensures written { Puts (K.files store.old) (K.files store.new) writer.old.file result
+    ensures written { PutsButHeld (K.files store.old) (K.files store.new) writer.old.file result
         (writer.old.pending ++ end_behind (option_copied last.entry)) writer.new.pending }
     ensures later { K.faults store.old ≤ K.faults store.new }
     ensures fault { result ≡ Err PackError.StoreFault → Rose (K.faults store.old) (K.faults store.new) }
@@ -52,23 +44,23 @@ fn end_partition<K: Store>(
 }
 
 /// Writes the static part of the partition that was just begun, where the table has a static type.
-fn put_fixed<K: Store>(
+fn put_static_part<K: Store>(
     writer: &mut DataWriter,
     schema: &Schema,
-    fixed: Option<&[u8]>,
+    static_part: Option<&[u8]>,
     store: &mut K,
 ) -> Result<(), PackError>
-    requires value { IfSome fixed (λ v. length v.now < 2 ^ 16) }
+    requires value { IfSome static_part (λ v. length v.now < 2 ^ 16) }
     requires place { writer.old.position < 2 ^ 60 }
-    ensures position { OnOk result (writer.new.position ≡ writer.old.position + length (fixed_bytes schema.now.static_value (option_copied fixed.entry))) }
+    ensures position { OnOk result (writer.new.position ≡ writer.old.position + length (static_part_bytes schema.now.static_value (option_copied static_part.entry))) }
     ensures file { writer.new.file ≡ writer.old.file }
-    ensures written { Puts (K.files store.old) (K.files store.new) writer.old.file result
-        (writer.old.pending ++ fixed_bytes schema.now.static_value (option_copied fixed.entry)) writer.new.pending }
+    ensures written { PutsButHeld (K.files store.old) (K.files store.new) writer.old.file result
+        (writer.old.pending ++ static_part_bytes schema.now.static_value (option_copied static_part.entry)) writer.new.pending }
     ensures later { K.faults store.old ≤ K.faults store.new }
     ensures fault { result ≡ Err PackError.StoreFault → Rose (K.faults store.old) (K.faults store.new) }
 {
     if schema.static_value.is_some() {
-        writer.fixed(fixed, store)?;
+        writer.static_part(static_part, store)?;
     }
     Ok(())
 }
@@ -78,22 +70,22 @@ fn open_partition<K: Store>(
     writer: &mut DataWriter,
     schema: &Schema,
     partition: &[u8],
-    fixed: Option<&[u8]>,
+    static_part: Option<&[u8]>,
     store: &mut K,
 ) -> Result<(), PackError>
-    requires key { length partition.now ≤ 1024 }
-    requires value { IfSome fixed (λ v. length v.now < 2 ^ 16) }
+    requires key { length partition.now ≤ longest_string }
+    requires value { IfSome static_part (λ v. length v.now < 2 ^ 16) }
     requires place { writer.old.position < 2 ^ 59 }
     ensures position { OnOk result (writer.new.position ≡ writer.old.position
-        + length (head_bytes partition.now ++ fixed_bytes schema.now.static_value (option_copied fixed.entry))) }
+        + length (head_bytes partition.now ++ static_part_bytes schema.now.static_value (option_copied static_part.entry))) }
     ensures file { writer.new.file ≡ writer.old.file }
-    ensures written { Puts (K.files store.old) (K.files store.new) writer.old.file result
-        (writer.old.pending ++ (head_bytes partition.now ++ fixed_bytes schema.now.static_value (option_copied fixed.entry))) writer.new.pending }
+    ensures written { PutsButHeld (K.files store.old) (K.files store.new) writer.old.file result
+        (writer.old.pending ++ (head_bytes partition.now ++ static_part_bytes schema.now.static_value (option_copied static_part.entry))) writer.new.pending }
     ensures later { K.faults store.old ≤ K.faults store.new }
     ensures fault { result ≡ Err PackError.StoreFault → Rose (K.faults store.old) (K.faults store.new) }
 {
     writer.open_partition(partition, store)?;
-    put_fixed(writer, schema, fixed, store)
+    put_static_part(writer, schema, static_part, store)
 }
 
 /// Begins a partition, behind the end of the open one.
@@ -102,22 +94,22 @@ fn begin_partition<K: Store>(
     schema: &Schema,
     last: Option<&[u8]>,
     partition: &[u8],
-    fixed: Option<&[u8]>,
+    static_part: Option<&[u8]>,
     store: &mut K,
 ) -> Result<(), PackError>
-    requires key { length partition.now ≤ 1024 }
-    requires value { IfSome fixed (λ v. length v.now < 2 ^ 16) }
+    requires key { length partition.now ≤ longest_string }
+    requires value { IfSome static_part (λ v. length v.now < 2 ^ 16) }
     requires place { writer.old.position < 2 ^ 58 }
     ensures position { OnOk result (writer.new.position ≡ writer.old.position
-        + length (end_behind (option_copied last.entry) ++ (head_bytes partition.now ++ fixed_bytes schema.now.static_value (option_copied fixed.entry)))) }
+        + length (end_behind (option_copied last.entry) ++ (head_bytes partition.now ++ static_part_bytes schema.now.static_value (option_copied static_part.entry)))) }
     ensures file { writer.new.file ≡ writer.old.file }
-    ensures written { Puts (K.files store.old) (K.files store.new) writer.old.file result
-        (writer.old.pending ++ (end_behind (option_copied last.entry) ++ (head_bytes partition.now ++ fixed_bytes schema.now.static_value (option_copied fixed.entry)))) writer.new.pending }
+    ensures written { PutsButHeld (K.files store.old) (K.files store.new) writer.old.file result
+        (writer.old.pending ++ (end_behind (option_copied last.entry) ++ (head_bytes partition.now ++ static_part_bytes schema.now.static_value (option_copied static_part.entry)))) writer.new.pending }
     ensures later { K.faults store.old ≤ K.faults store.new }
     ensures fault { result ≡ Err PackError.StoreFault → Rose (K.faults store.old) (K.faults store.new) }
 {
     end_partition(writer, last, store)?;
-    open_partition(writer, schema, partition, fixed, store)
+    open_partition(writer, schema, partition, static_part, store)
 }
 
 /// Begins the partition where it isn't the open one.
@@ -126,30 +118,30 @@ fn turn_to<K: Store>(
     schema: &Schema,
     last: Option<&[u8]>,
     partition: &[u8],
-    fixed: Option<&[u8]>,
+    static_part: Option<&[u8]>,
     store: &mut K,
 ) -> Result<(), PackError>
-    requires key { length partition.now ≤ 1024 }
-    requires value { IfSome fixed (λ v. length v.now < 2 ^ 16) }
+    requires key { length partition.now ≤ longest_string }
+    requires value { IfSome static_part (λ v. length v.now < 2 ^ 16) }
     requires place { writer.old.position < 2 ^ 58 }
     ensures position { OnOk result (writer.new.position ≡ writer.old.position
-        + length (before_row schema.now.static_value (option_copied last.entry) partition.now (option_copied fixed.entry))) }
+        + length (before_row schema.now.static_value (option_copied last.entry) partition.now (option_copied static_part.entry))) }
     ensures file { writer.new.file ≡ writer.old.file }
-    ensures written { Puts (K.files store.old) (K.files store.new) writer.old.file result
-        (writer.old.pending ++ before_row schema.now.static_value (option_copied last.entry) partition.now (option_copied fixed.entry)) writer.new.pending }
+    ensures written { PutsButHeld (K.files store.old) (K.files store.new) writer.old.file result
+        (writer.old.pending ++ before_row schema.now.static_value (option_copied last.entry) partition.now (option_copied static_part.entry)) writer.new.pending }
     ensures later { K.faults store.old ≤ K.faults store.new }
     ensures fault { result ≡ Err PackError.StoreFault → Rose (K.faults store.old) (K.faults store.new) }
 {
     if begins(last, partition) {
-        begin_partition(writer, schema, last, partition, fixed, store)
+        begin_partition(writer, schema, last, partition, static_part, store)
     } else {
         Ok(())
     }
 }
 
 /// The static value of an entry behind whose partition's string these bytes stand.
-fn fixed_by<'v>(clustering: &[u8], value: &'v [u8]) -> Option<&'v [u8]>
-    ensures { option_copied result ≡ fixed_by clustering.now value.now }
+fn static_part_by<'v>(clustering: &[u8], value: &'v [u8]) -> Option<&'v [u8]>
+    ensures { option_copied result ≡ static_part_by clustering.now value.now }
 {
     if clustering.is_empty() {
         Some(value)
@@ -165,12 +157,12 @@ fn put_row<K: Store>(
     value: &[u8],
     store: &mut K,
 ) -> Result<(), PackError>
-    requires clustering { length clustering.now ≤ 1024 }
+    requires clustering { length clustering.now ≤ longest_string }
     requires value { length value.now < 2 ^ 16 }
     requires place { writer.old.position < 2 ^ 60 }
     ensures position { OnOk result (writer.new.position ≡ writer.old.position + length (written_row clustering.now value.now)) }
     ensures file { writer.new.file ≡ writer.old.file }
-    ensures written { Puts (K.files store.old) (K.files store.new) writer.old.file result
+    ensures written { PutsButHeld (K.files store.old) (K.files store.new) writer.old.file result
         (writer.old.pending ++ written_row clustering.now value.now) writer.new.pending }
     ensures later { K.faults store.old ≤ K.faults store.new }
     ensures fault { result ≡ Err PackError.StoreFault → Rose (K.faults store.old) (K.faults store.new) }
@@ -196,10 +188,10 @@ fn write_entries<K: Store>(
     store: &mut K,
 ) -> Result<Counts, PackError>
     requires entries { AreTableEntries (columns_of schema.now) rows.now.entries }
-    requires count { length rows.now.entries ≤ 1000000 }
+    requires count { length rows.now.entries ≤ most_lines }
     ensures partitions { IfOk result (λ counts. counts.partitions ≡ length (grouped (columns_of schema.now) rows.now.entries)) }
     ensures rows { IfOk result (λ counts. counts.rows ≡ row_count (columns_of schema.now) rows.now.entries) }
-    ensures written { Finishes (K.files store.old) (K.files store.new) (data_id first_generation) result
+    ensures written { AppendsWhole (K.files store.old) (K.files store.new) (data_id first_generation) result
         (data_bytes schema.now.static_value (grouped (columns_of schema.now) rows.now.entries)) }
     ensures later { K.faults store.old ≤ K.faults store.new }
     ensures fault { result ≡ Err PackError.StoreFault → Rose (K.faults store.old) (K.faults store.new) }
@@ -215,8 +207,8 @@ fn write_entries<K: Store>(
         let value = value.as_slice();
         counts.partitions += begun_at(last, partition);
         counts.rows += row_at(clustering);
-        let fixed = fixed_by(clustering, value);
-        turn_to(&mut writer, schema, last, partition, fixed, store)?;
+        let static_part = static_part_by(clustering, value);
+        turn_to(&mut writer, schema, last, partition, static_part, store)?;
         put_row(&mut writer, clustering, value, store)?;
         last = Some(partition);
     }
@@ -233,7 +225,7 @@ pub fn flush<K: Store>(
     store: &mut K,
 ) -> Result<Counts, PackError>
     requires entries { AreTableEntries (columns_of schema.now) rows.now.entries }
-    requires count { length rows.now.entries ≤ 1000000 }
+    requires count { length rows.now.entries ≤ most_lines }
     ensures partitions { IfOk result (λ counts. counts.partitions ≡ length (grouped (columns_of schema.now) rows.now.entries)) }
     ensures rows { IfOk result (λ counts. counts.rows ≡ row_count (columns_of schema.now) rows.now.entries) }
     ensures written { Flushes (columns_of schema.now) (K.files store.old) (K.files store.new) result

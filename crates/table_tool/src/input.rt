@@ -7,8 +7,8 @@ ghost use Rattle.table_tool.specs.Input.{EndsEarly, IsSpelled, ReadIs, TakesScri
 
 use crate::status::Status;
 use key_types::{ByteList, NoMemory, Schema};
-use outside::{Failed, Source};
-use script_text::{Script, ScriptError, read_script};
+use outside::{Failed, PAGE, Source};
+use script_text::{MOST_BYTES, Script, ScriptError, read_script};
 use std::alloc::Global;
 
 /// Why an input isn't read.
@@ -29,10 +29,6 @@ impl From<NoMemory> for InputError {
     }
 }
 
-const MOST: usize = 67_108_864;
-
-const PAGE: usize = 4096;
-
 /// All the bytes of the source, read to its end or past the greatest length of a script.
 pub fn read_all<S: Source>(alloc: Global, source: &mut S) -> Result<ByteList, InputError>
     ensures told { IfSome (S.left source.old) (ReadIs result) }
@@ -50,7 +46,7 @@ pub fn read_all<S: Source>(alloc: Global, source: &mut S) -> Result<ByteList, In
             return Ok(all);
         }
         all.extend(&page[..count])?;
-        if all.len() > MOST {
+        if all.len() > MOST_BYTES {
             return Err(InputError::TooLarge);
         }
     }

@@ -9,7 +9,7 @@ ghost use Rattle.table_files.specs.There.{any_there};
 ghost use Rattle.table_tool.specs.First.{first_generation};
 ghost use Rattle.table_tool.specs.Outside.{outside_of};
 ghost use Rattle.table_tool.specs.Input.{IsSpelled};
-ghost use Rattle.table_tool.specs.Loading.{ok_line, loading, ChangesFiles, Loaded, LoadEnds, Loads, IsExists, KeepsFiles, NoneThere, StopsLoad};
+ghost use Rattle.table_tool.specs.Loading.{ok_line, loading, ChangesFiles, Loaded, LoadEnds, LoadsOrRefuses, IsExists, KeepsFiles, NoneThere, StopsLoad};
 
 use crate::first::FIRST_GENERATION;
 use crate::flush::flush;
@@ -67,7 +67,7 @@ fn load_source<S: Source, K: Store>(
 ) -> Result<ByteList, Status>
     requires columns { HaveSchemaFile (columns_of schema.now) }
     requires none { NoneThere (K.files store.old) }
-    ensures loads { IfSome (S.left source.old) (λ bytes. Loads (columns_of schema.now) result (loading (columns_of schema.now) bytes) (K.files store.old) (K.files store.new)) }
+    ensures loads { IfSome (S.left source.old) (λ bytes. LoadsOrRefuses (columns_of schema.now) result (loading (columns_of schema.now) bytes) (K.files store.old) (K.files store.new)) }
     ensures stops { IfErr result StopsLoad }
     ensures not_exists { ¬ (result ≡ Err Status.Exists) }
     ensures kept { IfErr result (λ status. KeepsFiles status (K.files store.old) (K.files store.new)) }
@@ -100,7 +100,7 @@ fn load_once<S: Source, K: Store>(
     ensures exists { IfSome (K.files store.old) (λ old. IsTrue (any_there first_generation old)
         → MatchResult result (λ _. ⊥) IsExists × (K.files store.new ≡ K.files store.old) × (source.new ≡ source.old)) }
     ensures unread { result ≡ Err Status.Exists → source.new ≡ source.old }
-    ensures loads { IfSome (S.left source.old) (λ bytes. Loads (columns_of schema.now) result (loading (columns_of schema.now) bytes) (K.files store.old) (K.files store.new)) }
+    ensures loads { IfSome (S.left source.old) (λ bytes. LoadsOrRefuses (columns_of schema.now) result (loading (columns_of schema.now) bytes) (K.files store.old) (K.files store.new)) }
     ensures stops { IfErr result StopsLoad }
     ensures kept { IfErr result (λ status. KeepsFiles status (K.files store.old) (K.files store.new)) }
     ensures changes { IfSome (S.left source.old) (λ bytes. WhereTold (K.files store.old) (K.files store.new) (ChangesFiles (columns_of schema.now) (loading (columns_of schema.now) bytes))) }

@@ -1,10 +1,11 @@
-//! The parts of the key string of an entry.
+//! The parts of the key string of an entry, and where a partition begins.
 ghost use Rattle.std.specs.Prelude.{◌≡◌};
+ghost use Rattle.std.specs.Option.{option_copied};
 ghost use Rattle.key_types.specs.Columns.{columns_of};
 ghost use Rattle.key_types.specs.Kinds.{kinds_of};
 ghost use Rattle.key_decode.specs.Strings.{BeginsString};
 ghost use Rattle.table_tool.specs.Entries.{clustering_in, partition_in};
-ghost use Rattle.table_tool.specs.Grouping.{row_at};
+ghost use Rattle.table_tool.specs.Grouping.{begins, row_at};
 
 use key_decode::split_row;
 use key_types::Schema;
@@ -23,4 +24,14 @@ pub fn row_at(clustering: &[u8]) -> u64
     ensures { result ≡ row_at clustering.now }
 {
     u64::from(!clustering.is_empty())
+}
+
+/// Whether an entry of this partition begins it, behind an entry of the open one.
+pub fn begins(last: Option<&[u8]>, partition: &[u8]) -> bool
+    ensures { result ≡ begins (option_copied last.entry) partition.now }
+{
+    match last {
+        Some(before) => before != partition,
+        None => true,
+    }
 }

@@ -1,19 +1,20 @@
 //! The text of rows and static values.
-ghost use Rattle.std.specs.Prelude.{◌≡◌, ◌≤◌, ◌++◌, [], List, ℕ, Some, codes, length, OnOk, IfOk};
+ghost use Rattle.std.specs.Prelude.{◌≡◌, ◌≤◌, ◌++◌, [], List, ℕ, Some, codes, length, OnOk, IfOk, IfSome};
 ghost use Rattle.std.specs.Option.{option_copied};
 ghost use Rattle.key_types.specs.Columns.{columns_of};
+ghost use Rattle.script_text.specs.Script.{most_lines};
 ghost use Rattle.key_types.specs.Kinds.{kinds_of};
 ghost use Rattle.key_decode.specs.Strings.{IsStringOf};
 ghost use Rattle.key_text.specs.Written.{equals_literal};
 ghost use Rattle.key_printing.specs.Texts.{IsTextOf};
-ghost use Rattle.data_file.specs.Listing.{IsFixed};
+ghost use Rattle.data_file.specs.Listing.{FitsStaticType};
 ghost use Rattle.table_tool.specs.Grouping.{AreTableEntries, IsBehind};
 ghost use Rattle.table_tool.specs.Lines.{EndsLine};
 ghost use Rattle.table_tool.specs.Printed.{count_line, entry_line, entry_lines, rows_text};
 ghost use Rattle.table_files.specs.Standing.{static_entries};
 
 use crate::numbers::put_number;
-use crate::parts::{part, row_at};
+use crate::parts::{begins, part, row_at};
 use crate::table::Rows;
 use key_printing::write_string;
 use key_text::write_equals;
@@ -48,7 +49,7 @@ fn end_static_of(out: &mut ByteList, kind: ValueType, value: &[u8]) -> Result<()
 
 /// Ends the line of a static value of the table.
 fn end_static(out: &mut ByteList, schema: &Schema, value: &[u8]) -> Result<(), NoMemory>
-    requires { IsFixed schema.now.static_value (Some value.now) }
+    requires { FitsStaticType schema.now.static_value (Some value.now) }
     ensures { OnOk result (EndsLine (columns_of schema.now) [] value.now out.old out.new) }
 {
     match schema.static_value {
@@ -75,17 +76,17 @@ pub fn put_row(
 }
 
 /// Appends the line of the static value of the partition with this text, where it has one.
-pub fn put_fixed(
+pub fn put_static_part(
     out: &mut ByteList,
     schema: &Schema,
     partition: &[u8],
-    fixed: Option<&[u8]>,
+    static_part: Option<&[u8]>,
 ) -> Result<(), NoMemory>
-    requires { IsFixed schema.now.static_value (option_copied fixed) }
+    requires { FitsStaticType schema.now.static_value (option_copied static_part) }
     ensures { OnOk result ((key : List ℕ) → IsTextOf (kinds_of schema.now.partition) key partition.now
-        → out.new ≡ out.old ++ entry_lines (columns_of schema.now) (static_entries key (option_copied fixed.entry))) }
+        → out.new ≡ out.old ++ entry_lines (columns_of schema.now) (static_entries key (option_copied static_part.entry))) }
 {
-    match fixed {
+    match static_part {
         Some(value) => {
             out.extend(partition)?;
             end_static(out, schema, value)
@@ -94,20 +95,39 @@ pub fn put_fixed(
     }
 }
 
-/// Appends the line of an entry, whose key's string is put together of these.
+/// Turns the text of a partition's components to that of this partition, where it isn't the last one, whose text it is.
+fn turn_text(
+    text: &mut ByteList,
+    alloc: Global,
+    schema: &Schema,
+    last: Option<&[u8]>,
+    partition: &[u8],
+) -> Result<(), NoMemory>
+    requires partition { IsStringOf (kinds_of schema.now.partition) partition.now }
+    requires last { IfSome (option_copied last) (λ key. IsTextOf (kinds_of schema.now.partition) key text.old) }
+    ensures { OnOk result (IsTextOf (kinds_of schema.now.partition) partition.now text.new) }
+{
+    if begins(last, partition) {
+        text.truncate(0);
+        return write_string(alloc, &schema.partition, partition, text);
+    }
+    Ok(())
+}
+
+/// Appends the line of an entry: of a row, or of a static value where no clustering is there. Its partition has this text.
 fn put_entry(
     out: &mut ByteList,
     alloc: Global,
     schema: &Schema,
-    partition: &[u8],
+    text: &[u8],
     clustering: &[u8],
     value: &[u8],
 ) -> Result<(), NoMemory>
-    requires partition { IsStringOf (kinds_of schema.now.partition) partition.now }
-    requires behind { IsBehind (columns_of schema.now) clustering.now value.now }
-    ensures { OnOk result (out.new ≡ out.old ++ entry_line (columns_of schema.now) (partition.now ++ clustering.now, value.now)) }
+    requires { IsBehind (columns_of schema.now) clustering.now value.now }
+    ensures { OnOk result ((key : List ℕ) → IsTextOf (kinds_of schema.now.partition) key text.now
+        → out.new ≡ out.old ++ entry_line (columns_of schema.now) (key ++ clustering.now, value.now)) }
 {
-    write_string(alloc, &schema.partition, partition, out)?;
+    out.extend(text)?;
     if clustering.is_empty() {
         end_static(out, schema, value)
     } else {
@@ -126,22 +146,26 @@ pub fn put_count(out: &mut ByteList, rows: u64) -> Result<(), NoMemory>
 /// The lines of the entries in order, and how many rows there are.
 pub fn print_rows(alloc: Global, schema: &Schema, rows: &Rows) -> Result<ByteList, NoMemory>
     requires entries { AreTableEntries (columns_of schema.now) rows.now.entries }
-    requires count { length rows.now.entries ≤ 1000000 }
+    requires count { length rows.now.entries ≤ most_lines }
     ensures { IfOk result (λ text. text ≡ rows_text (columns_of schema.now) rows.now.entries) }
 {
     let mut out = ByteList::new(alloc);
+    let mut text = ByteList::new(alloc);
+    let mut last: Option<&[u8]> = None;
     let mut count = 0u64;
     'entries: for (key, value) in rows {
         let (partition, clustering) = part(schema, key.as_slice());
+        turn_text(&mut text, alloc, schema, last, partition)?;
         put_entry(
             &mut out,
             alloc,
             schema,
-            partition,
+            text.as_slice(),
             clustering,
             value.as_slice(),
         )?;
         count += row_at(clustering);
+        last = Some(partition);
     }
     put_count(&mut out, count)?;
     Ok(out)

@@ -1,6 +1,6 @@
 //! How a run ended, and the exit status of the program.
 ghost use Rattle.std.specs.Prelude.{◌≡◌};
-ghost use Rattle.table_tool.specs.Numbers.{number_of};
+ghost use Rattle.table_tool.specs.Numbers.{status_number};
 
 use bti_nodes::Damage;
 use script_text::LineCause;
@@ -35,7 +35,7 @@ pub enum Status {
 impl Status {
     /// The exit status of the program.
     pub fn number(&self) -> u8
-        ensures { result ≡ number_of self.now }
+        ensures { result ≡ status_number self.now }
     {
         match self {
             Status::Ok => 0,

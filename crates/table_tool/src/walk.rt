@@ -5,12 +5,12 @@ ghost use Rattle.key_types.specs.Columns.{columns_of};
 ghost use Rattle.bti_nodes.specs.declared.damage.Cause.TheVariants.{BadRow};
 ghost use Rattle.data_file.specs.Answers.{damage_at};
 ghost use Rattle.table_tool.specs.Window.{HasEnough};
-ghost use Rattle.table_tool.specs.Steps.{HasKey, IsFixedBehind, NoFixedBehind, StepIs};
+ghost use Rattle.table_tool.specs.Steps.{HasKey, IsStaticPartBehind, NoStaticPartBehind, StepIs};
 
-use crate::printing::{put_fixed, put_row};
+use crate::printing::{put_row, put_static_part};
 use crate::window::Window;
 use bti_nodes::{Cause, Damage};
-use data_file::{ParseRow, fixed_in, head_in, row_in};
+use data_file::{ParseRow, head_in, row_in, static_part_in};
 use key_printing::write_string;
 use key_types::{ByteList, KeyBytes, NoMemory, Schema};
 use outside::Part;
@@ -40,20 +40,20 @@ pub struct Walk {
 
 /// The static value behind a head of so many bytes, where there is one, and the length of the static part; `None` where no static part stands there. A table
 /// without a static type has none, of no bytes.
-fn fixed_behind<'b>(
+fn static_part_behind<'b>(
     schema: &Schema,
     bytes: &'b [u8],
     head: usize,
 ) -> Option<(Option<&'b [u8]>, usize)>
     requires { head ≤ length bytes.now }
-    ensures some { IfSome result (λ p. IsFixedBehind (columns_of schema.now) (drop head bytes.now) (option_copied p.0) p.1) }
-    ensures none { IsNone result → NoFixedBehind (columns_of schema.now) (drop head bytes.now) }
+    ensures some { IfSome result (λ p. IsStaticPartBehind (columns_of schema.now) (drop head bytes.now) (option_copied p.0) p.1) }
+    ensures none { IsNone result → NoStaticPartBehind (columns_of schema.now) (drop head bytes.now) }
 {
     if schema.static_value.is_none() {
         return Some((None, 0));
     }
     let (_, behind) = bytes.split_at(head);
-    match fixed_in(schema, behind) {
+    match static_part_in(schema, behind) {
         Ok(None) => Some((None, 1)),
         Ok(Some(value)) => Some((Some(value), 3 + value.len())),
         Err(_) => None,
@@ -115,7 +115,7 @@ impl Walk {
             return Ok(self.stop_at(at, Cause::BadHead));
         };
         let head = 2 + key.len();
-        let Some((fixed, length)) = fixed_behind(schema, bytes, head) else {
+        let Some((static_part, length)) = static_part_behind(schema, bytes, head) else {
             let at = self.window.at() + head as u64;
             return Ok(self.stop_at(at, Cause::BadRow));
         };
@@ -123,7 +123,7 @@ impl Walk {
         self.key.extend(key)?;
         self.text.truncate(0);
         write_string(alloc, &schema.partition, key, &mut self.text)?;
-        put_fixed(out, schema, self.text.as_slice(), fixed)?;
+        put_static_part(out, schema, self.text.as_slice(), static_part)?;
         self.window.pass(head + length);
         self.inside = true;
         Ok(Met::Border)

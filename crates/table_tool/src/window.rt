@@ -5,12 +5,10 @@ ghost use Rattle.outside.specs.Files.{bytes_of};
 ghost use Rattle.table_tool.specs.Window.{Continues, HasEnough};
 
 use key_types::{ByteList, NoMemory};
-use outside::{FileId, Store};
+use outside::{FileId, PAGE, Store};
 use std::alloc::Global;
 use std::marker::Model;
 use table_files::FileError;
-
-const PAGE: usize = 4096;
 
 /// A window is read ahead where it has fewer bytes than the longest row.
 const ENOUGH: usize = 66_564;

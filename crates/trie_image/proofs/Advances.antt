@@ -3,7 +3,7 @@ use Rattle.std.proofs.Common.{◌≡◌, ◌≢◌, ℕ, zero, suc, ◌+◌, ◌
 use Rattle.std.proofs.lemmas.Bool.{eqb-false, ltb-false, cond-true, cond-false, ne_eqb, cases_eq}
 use Rattle.cell_layout.specs.declared.Kind.{Kind}
 use Rattle.cell_layout.specs.declared.Kind.TheVariants as kind
-use Rattle.cell_layout.specs.Words.{half_of, AreBytes}
+use Rattle.cell_layout.specs.Words.{half_of, ItemsAreBytes}
 use Rattle.cell_layout.specs.Pointers.{kind_at, record_cell}
 use Rattle.cell_layout.specs.Slots.{slot_at}
 use Rattle.cell_layout.proofs.PointerKinds.{is_kind}
@@ -20,7 +20,7 @@ use Rattle.trie_image.specs.Reading.{sees, sees_from}
 use Rattle.trie_image.specs.Image.{word_of, field, cell_byte, slot_child, leaf_child, mid_child, node_child, child_of, content_record, record_of, reading, root_of}
 use Rattle.trie_image.specs.Paths.{owner, HasPath}
 use Rattle.trie_image.specs.Cell.{IsSparseCell, IsTopCell, IsMidCell, IsLeafCell, IsPrefixCell, IsCell, IsImage}
-use Rattle.trie_image.specs.Place.{place_at, node_place, follow_by, follow, content_place, prefix_step, slot_step, inward, node_step, step_of, outcome_of, IsPlaceAt, IsPlace, role_sees, place_sees, word_at, next_word_of}
+use Rattle.trie_image.specs.Place.{place_at, node_place, follow_by, follow, content_place, prefix_step, advance_in_slots, inward, advance_in_node, step_of, outcome_of, IsPlaceAt, IsPlace, role_sees, place_sees, word_at, next_word_of}
 use Rattle.trie_image.specs.Laws.{Answers}
 use Rattle.trie_image.proofs.Owners.{content_of, sparse_of, split_node_of, prefix_of}
 use Rattle.trie_image.proofs.Readings.{sees_none, sees_there}
@@ -60,7 +60,7 @@ drop_past [] (suc i) h = refl
 drop_past (x ∷ xs) zero h = absurd (omega arith)
 drop_past (x ∷ xs) (suc i) h = drop_past xs i (omega arith)
 
-module _ (w : List ℕ) (g : Ledger) (key : List ℕ) (each : (c : ℕ) (o : _) → owner g c ≡ Some o → IsCell w g c o) (bytes : AreBytes key) (few : (n : ℕ) (put : Put) → slice_get g.puts n ≡ Some put → n + 1 < 2 ^ 32) where
+module _ (w : List ℕ) (g : Ledger) (key : List ℕ) (each : (c : ℕ) (o : _) → owner g c ≡ Some o → IsCell w g c o) (bytes : ItemsAreBytes key) (few : (n : ℕ) (put : Put) → slice_get g.puts n ≡ Some put → n + 1 < 2 ^ 32) where
   abbrev Goes : Option ℕ → Advance → Type 0
   Goes o a = Answers w g key o a
 
@@ -137,7 +137,7 @@ module _ (w : List ℕ) (g : Ledger) (key : List ℕ) (each : (c : ℕ) (o : _) 
       goes_at (sees_from (reading w) c (drop (taken + 1) key)) (sees (reading w) p (drop taken key)) (follow key c (taken + 1)) (ap (λ (x : ℕ). sees_from (reading w) x (drop (taken + 1) key)) is ∙ sym (sees_key_on p taken b k e next))
       (follow_goes c (taken + 1) (omega arith) (λ ne. subst (HasPath g c) (sym (take_next key taken b next)) (subst (λ (x : ℕ). HasPath g x (take taken key ++ b ∷ [])) (sym child) (closed w g each p (take taken key) b at (λ z. ne (child ∙ z))))))
 
-  chain_goes : (p taken b : ℕ) → kind_at p ≡ Some kind.Chain → HasPath g p (take taken key) → slice_get key taken ≡ Some b → Goes (sees (reading w) p (drop taken key)) (node_step key p 0 taken (word_of w (p / 32) (p % 32 / 8)) Chain (Some b))
+  chain_goes : (p taken b : ℕ) → kind_at p ≡ Some kind.Chain → HasPath g p (take taken key) → slice_get key taken ≡ Some b → Goes (sees (reading w) p (drop taken key)) (advance_in_node key p 0 taken (word_of w (p / 32) (p % 32 / 8)) Chain (Some b))
   chain_goes p taken b e at next = let o : Option ℕ = sees (reading w) p (drop taken key) in
       goes_if o (cell_byte w (p / 32) (p % 32) == b) (cond (p % 32 == 27) (follow key (half_of (word_of w (p / 32) (p % 32 / 8)) true) (taken + 1)) (cond (nat_lt (p % 32) 27) (follow key (p + 1) (taken + 1)) Absent)) Absent
       (λ same. goes_if o (p % 32 == 27) (follow key (half_of (word_of w (p / 32) (p % 32 / 8)) true) (taken + 1)) (cond (nat_lt (p % 32) 27) (follow key (p + 1) (taken + 1)) Absent)
@@ -148,7 +148,7 @@ module _ (w : List ℕ) (g : Ledger) (key : List ℕ) (each : (c : ℕ) (o : _) 
       (λ ge. absurd (let offset : (p ≢ 0) × (p < 2 ^ 31) × (p % 32 ≤ 27) = is_kind p (Some kind.Chain) e in let d = eqb-false (p % 32) 27 end in let l = ltb-false (p % 32) 27 ge in omega (arith, d, l)))))
       (λ other. sees_key_on p taken b (Some kind.Chain) e next ∙ ap (λ (x : ℕ). sees_from (reading w) x (drop (taken + 1) key)) (cond-false (cell_byte w (p / 32) (p % 32) == b) (cond (p % 32 == 27) (field w (p / 32) 7) (p + 1)) 0 other))
 
-  slot_goes : (p taken b : ℕ) (o : Option ℕ) → kind_at p ≡ Some kind.Sparse → HasPath g p (take taken key) → slice_get key taken ≡ Some b → slot_at (word_of w (p / 32) 3) b ≡ o → Goes (sees_from (reading w) (slot_child w (p / 32) o) (drop (taken + 1) key)) (slot_step p taken o)
+  slot_goes : (p taken b : ℕ) (o : Option ℕ) → kind_at p ≡ Some kind.Sparse → HasPath g p (take taken key) → slice_get key taken ≡ Some b → slot_at (word_of w (p / 32) 3) b ≡ o → Goes (sees_from (reading w) (slot_child w (p / 32) o) (drop (taken + 1) key)) (advance_in_slots p taken o)
   slot_goes p taken b None e at next is = refl
   slot_goes p taken b (Some s) e at next is = (place_ok Slot p s taken (b, at, e, next, is), refl)
 
@@ -217,8 +217,8 @@ module _ (w : List ℕ) (g : Ledger) (key : List ℕ) (each : (c : ℕ) (o : _) 
       let value : length ok.0.value ≡ length i.1.value = ap (λ (x : Put). length x.value) same in let cell : ok.0.cell ≡ i.1.cell = ap (λ (x : Put). x.cell) same in
       (sees_key_end p taken (Some kind.Content) e (omega arith), i.0, i.1, sym i.4, record { is_there = i.3; cell = omega (arith, ok.2.place, cell); number = omega (arith, word, small); len = omega (arith, word, small, value) })
 
-  by_byte : (o : Option ℕ) (p part taken word b : ℕ) (role : Role) → slice_get key taken ≡ Some b → Goes o (node_step key p part taken word role (Some b)) → Goes o (node_step key p part taken word role (slice_get key taken))
-  by_byte o p part taken word b role e h = subst (λ (x : Option ℕ). Goes o (node_step key p part taken word role x)) (sym e) h
+  by_byte : (o : Option ℕ) (p part taken word b : ℕ) (role : Role) → slice_get key taken ≡ Some b → Goes o (advance_in_node key p part taken word role (Some b)) → Goes o (advance_in_node key p part taken word role (slice_get key taken))
+  by_byte o p part taken word b role e h = subst (λ (x : Option ℕ). Goes o (advance_in_node key p part taken word role x)) (sym e) h
 
   steps : (p part taken : ℕ) (role : Role) → (root_of w ≢ 0 → HasPath g (root_of w) []) → IsPlaceAt w g key p part taken role → Goes (role_sees w key p part taken role) (step_of key p part taken (slice_index w (word_at role p part)) role)
   steps p part taken Root root ok = follow_goes (root_of w) 0 (omega arith) root
@@ -226,7 +226,7 @@ module _ (w : List ℕ) (g : Ledger) (key : List ℕ) (each : (c : ℕ) (o : _) 
   steps p part taken Head root ok = head_goes p taken ok
   steps p part taken Chain root (at, e, lt) = let there = get_there key taken lt in by_byte (role_sees w key p part taken Chain) p part taken (slice_index w (word_at Chain p part)) there.0 Chain there.1 (chain_goes p taken there.0 e at there.1)
   steps p part taken Order root (at, e, lt) = let there = get_there key taken lt in let b : ℕ = there.0 in by_byte (role_sees w key p part taken Order) p part taken (slice_index w (word_at Order p part)) b Order there.1
-      (goes_at (sees_from (reading w) (slot_child w (p / 32) (slot_at (word_of w (p / 32) 3) b)) (drop (taken + 1) key)) (sees (reading w) p (drop taken key)) (slot_step p taken (slot_at (word_of w (p / 32) 3) b)) (sym (sees_key_on p taken b (Some kind.Sparse) e there.1)) (slot_goes p taken b (slot_at (word_of w (p / 32) 3) b) e at there.1 refl))
+      (goes_at (sees_from (reading w) (slot_child w (p / 32) (slot_at (word_of w (p / 32) 3) b)) (drop (taken + 1) key)) (sees (reading w) p (drop taken key)) (advance_in_slots p taken (slot_at (word_of w (p / 32) 3) b)) (sym (sees_key_on p taken b (Some kind.Sparse) e there.1)) (slot_goes p taken b (slot_at (word_of w (p / 32) 3) b) e at there.1 refl))
   steps p part taken Slot root (b, at, e, next, slot) = let inside : taken < length key = get_inside key taken b next in let ok : IsSparseCell w g (p / 32) (take taken key) = each (p / 32) (SparseCell (take taken key)) (sparse_of g p (take taken key) at e) in
       by_byte (role_sees w key p part taken Slot) p part taken (slice_index w (word_at Slot p part)) b Slot next (follow_goes (field w (p / 32) part) (taken + 1) (omega arith) (λ ne. subst (HasPath g (field w (p / 32) part)) (sym (take_next key taken b next)) (ok.children b part slot)))
   steps p part taken Top root (at, e, next) = by_byte (role_sees w key p part taken Top) p part taken (slice_index w (word_at Top p part)) part Top next (top_goes p taken part e at next)

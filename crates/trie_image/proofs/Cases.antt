@@ -7,7 +7,7 @@ use Rattle.cell_layout.specs.Pointers.{kind_at}
 use Rattle.cell_layout.specs.Slots.{slot_at}
 use Rattle.cell_layout.proofs.PointerKinds.{is_kind, is_chain}
 use Rattle.cell_layout.specs.Cells.{record_cells, record_words, chain_cells, chain_from, branch_words, prefix_words}
-use Rattle.cell_layout.specs.Words.{AreBytes}
+use Rattle.cell_layout.specs.Words.{ItemsAreBytes}
 use Rattle.cell_layout.proofs.WordsAt.{length_chain, length_record_words}
 use Rattle.trie_image.specs.declared.Owner.TheVariants.{HeadCell, ChainCell, SparseCell, PrefixCell}
 use Rattle.trie_image.specs.declared.Ledger.{Ledger}
@@ -88,7 +88,7 @@ module _ (used : ℕ) (value rest : List ℕ) (low : 1 ≤ used) (capacity : fir
   entry_is_chain ne = let p : ℕ = 32 * (used + record_cells (length value)) + (28 * chain_cells (length rest) - length rest) in
       ap (λ (x : ℕ). kind_at x) (cond-false (length rest == 0) (content_of used) p (ne_eqb (length rest) 0 ne)) ∙ is_chain p (λ z. omega arith) (omega arith) (omega arith)
 
-  pub entry_reads : (w' : List ℕ) → AreBytes rest → Stands w' (used + record_cells (length value)) (chain_from (used + record_cells (length value)) (chain_cells (length rest)) rest (content_of used)) → Reads (reading w') (entry_of used value rest) rest (content_of used)
+  pub entry_reads : (w' : List ℕ) → ItemsAreBytes rest → Stands w' (used + record_cells (length value)) (chain_from (used + record_cells (length value)) (chain_cells (length rest)) rest (content_of used)) → Reads (reading w') (entry_of used value rest) rest (content_of used)
   entry_reads w' bytes h = new_chain_reads w' (used + record_cells (length value)) rest (content_of used) h (omega arith) (omega arith) bytes
 
 -- the cases of a pointer that is turned in the walk's field

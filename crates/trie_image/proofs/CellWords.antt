@@ -7,7 +7,7 @@ use Rattle.std.proofs.lemmas.List.{get_or_append_left, get_or-append-add, get_or
 use Rattle.std.proofs.lemmas.List.FromFn.{get_or-map-range_with_len}
 use Rattle.std.specs.List.{range_with_len}
 use Rattle.cell_layout.proofs.CellBytes.{bytes_mapped, lone_half, other_half_of, by_index}
-use Rattle.cell_layout.specs.Words.{half_of, AreBytes}
+use Rattle.cell_layout.specs.Words.{half_of, ItemsAreBytes}
 use Rattle.cell_layout.specs.Cells.{lone_word, lone_words}
 use Rattle.trie_image.specs.declared.exit.Stand.{Stand}
 use Rattle.trie_image.specs.Image.{field, cell_byte}
@@ -25,7 +25,7 @@ stands_back w c n a b e h i l = let at : 4 * (c + n) + i ≡ 4 * c + (length a +
     ap (λ (x : ℕ). slice_index w x) at ∙ (h (length a + i) (omega (arith, length-append a b)) ∙ get_or-append-add a b i 0)
 
 -- the bytes of the cell for passed bytes
-pub bytes_passed : (w : List ℕ) (s : Stand) → AreBytes (passed_bytes w s)
+pub bytes_passed : (w : List ℕ) (s : Stand) → ItemsAreBytes (passed_bytes w s)
 unfolding passed_bytes
 bytes_passed w s = bytes_mapped (λ o. cond (nat_le 28 (o + (s.at - s.entered))) (cell_byte w (s.at / 32) (s.at % 32 + o - 28)) 0) 0 28
     (λ o. cond_both (nat_le 28 (o + (s.at - s.entered))) (cell_byte w (s.at / 32) (s.at % 32 + o - 28)) 0 (λ (x : ℕ). x < 256) (λ e. mod-lt _ (omega arith)) (λ e. omega arith))

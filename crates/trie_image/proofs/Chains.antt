@@ -2,7 +2,7 @@
 use Rattle.std.proofs.Common.{◌≡◌, ◌≢◌, ℕ, zero, suc, ◌+◌, ◌-◌, ◌*◌, ◌/◌, ◌%◌, ◌^◌, ◌<◌, ◌≤◌, ◌==◌, if◌then◌else◌, true, List, [], ◌∷◌, length, take, drop, slice_index, refl, sym, ap, ◌∙◌, subst, arith, eq-eqb, ne_eqb}
 use Rattle.std.proofs.lemmas.Bool.{cond-true, cond-false}
 use Rattle.std.proofs.lemmas.List.{length-take-le, length-drop, take-append-drop}
-use Rattle.cell_layout.specs.Words.{half_of, byte_of, AreBytes}
+use Rattle.cell_layout.specs.Words.{half_of, byte_of, ItemsAreBytes}
 use Rattle.cell_layout.specs.Cells.{chain_cell, padded, chain_cells, chain_from, chain_entry, next_cell}
 use Rattle.cell_layout.proofs.CellBytes.{bytes_taken, bytes_dropped, byte_of_chain_cell, tail_of_chain_cell, bytes_padded, padded_byte}
 use Rattle.trie_image.specs.Reading.{Reads}
@@ -12,7 +12,7 @@ use Rattle.trie_image.proofs.CellWords.{Stands, stands_front, stands_back}
 
 module _ (w : List ℕ) where
   -- one cell, entered at the first of its bytes
-  pub part_reads : (c : ℕ) (bytes : List ℕ) (next p : ℕ) → Stands w c (chain_cell (padded bytes) next) → 1 ≤ length bytes → length bytes ≤ 28 → AreBytes bytes → 1 ≤ c → c < 2 ^ 26 → p ≡ 32 * c + (28 - length bytes) → Reads (reading w) p bytes next
+  pub part_reads : (c : ℕ) (bytes : List ℕ) (next p : ℕ) → Stands w c (chain_cell (padded bytes) next) → 1 ≤ length bytes → length bytes ≤ 28 → ItemsAreBytes bytes → 1 ≤ c → c < 2 ^ 26 → p ≡ 32 * c + (28 - length bytes) → Reads (reading w) p bytes next
   part_reads c bytes next p h some_ few small low high is = let four : length (chain_cell (padded bytes) next) ≡ 4 = refl in
       let end : field w c 7 ≡ next = ap (λ (x : ℕ). half_of x true) (h 3 (omega arith)) ∙ tail_of_chain_cell (padded bytes) next (bytes_padded bytes small) in
       subst (λ (x : ℕ). Reads (reading w) p bytes x) end (cell_reads w c bytes (28 - length bytes) p is (λ z. omega arith) (omega arith) (omega arith) (omega arith)
@@ -28,7 +28,7 @@ module _ (w : List ℕ) where
   next_enters zero f len end e = refl
   next_enters (suc n) f len end e = omega arith
 
-  pub chain_reads : (n f : ℕ) (bytes : List ℕ) (end : ℕ) → Stands w f (chain_from f n bytes end) → 1 ≤ f → f + n < 2 ^ 26 → length bytes ≤ 28 * n → 28 * n < length bytes + 28 → AreBytes bytes → Reads (reading w) (enters n f (length bytes) end) bytes end
+  pub chain_reads : (n f : ℕ) (bytes : List ℕ) (end : ℕ) → Stands w f (chain_from f n bytes end) → 1 ≤ f → f + n < 2 ^ 26 → length bytes ≤ 28 * n → 28 * n < length bytes + 28 → ItemsAreBytes bytes → Reads (reading w) (enters n f (length bytes) end) bytes end
   chain_reads zero f [] end h low high few more small = refl
   chain_reads zero f (b ∷ bytes) end h low high few more small = absurd (omega arith)
   chain_reads (suc n) f bytes end h low high few more small =
@@ -46,5 +46,5 @@ module _ (w : List ℕ) where
   entry_is (suc n) f len end e = let ne : len ≢ 0 = λ z. omega arith in sym (cond-false (len == 0) end (32 * f + (28 * suc n - len)) (ne_eqb len 0 ne))
 
   -- the new chain of a put, of at least as many cells as its bytes need
-  pub new_chain_reads : (f : ℕ) (bytes : List ℕ) (end : ℕ) → Stands w f (chain_from f (chain_cells (length bytes)) bytes end) → 1 ≤ f → f + chain_cells (length bytes) < 2 ^ 26 → AreBytes bytes → Reads (reading w) (chain_entry f bytes end) bytes end
+  pub new_chain_reads : (f : ℕ) (bytes : List ℕ) (end : ℕ) → Stands w f (chain_from f (chain_cells (length bytes)) bytes end) → 1 ≤ f → f + chain_cells (length bytes) < 2 ^ 26 → ItemsAreBytes bytes → Reads (reading w) (chain_entry f bytes end) bytes end
   new_chain_reads f bytes end h low high small = subst (λ (x : ℕ). Reads (reading w) x bytes end) (entry_is (chain_cells (length bytes)) f (length bytes) end refl) (chain_reads (chain_cells (length bytes)) f bytes end h low high (omega arith) (omega arith) small)

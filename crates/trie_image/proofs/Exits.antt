@@ -8,7 +8,7 @@ use Rattle.cell_layout.specs.declared.Kind.TheVariants as kind
 use Rattle.cell_layout.specs.Pointers.{kind_at}
 use Rattle.cell_layout.specs.Slots.{slot_at, child_count}
 use Rattle.cell_layout.proofs.PointerKinds.{is_kind, next_byte}
-use Rattle.cell_layout.specs.Words.{AreBytes}
+use Rattle.cell_layout.specs.Words.{ItemsAreBytes}
 use Rattle.trie_image.specs.declared.Owner.{Owner}
 use Rattle.trie_image.specs.declared.Owner.TheVariants.{HeadCell, ChainCell, SparseCell, TopCell, MidCell, LeafCell, PrefixCell}
 use Rattle.trie_image.specs.declared.Ledger.{Ledger}
@@ -278,7 +278,7 @@ module _ (w : List ℕ) (g : Ledger) (cells : ℕ) (ok : IsImage w g cells) wher
     goes path taken b k whole so_far on (On s) (q, m, here) = on s q m here
     goes path taken b k whole so_far on (Left meets s) tells = tells key k whole so_far
 
-    exits : (k : List ℕ) (s : Stand) (q m path : List ℕ) (taken : ℕ) → AreBytes k → Here q m path s → path ++ k ≡ key → taken ≡ length path → Leaves w g key (exit_at w k s taken)
+    exits : (k : List ℕ) (s : Stand) (q m path : List ℕ) (taken : ℕ) → ItemsAreBytes k → Here q m path s → path ++ k ≡ key → taken ≡ length path → Leaves w g key (exit_at w k s taken)
     exits [] s q m path taken bytes here whole so_far = let same : path ≡ key = sym (append-nil path) ∙ whole in
         ends s q m taken (subst (λ (x : List ℕ). Here q m x s) same here) (so_far ∙ ap (λ (x : List ℕ). length x) same) (kind_at s.at) refl
     exits (b ∷ k) s q m path taken bytes here whole so_far = goes path taken b k whole so_far
@@ -286,7 +286,7 @@ module _ (w : List ℕ) (g : Ledger) (cells : ℕ) (ok : IsImage w g cells) wher
         (byte_step w b s (kind_at s.at)) (byte_steps path taken b (bytes 0) s q m here (kind_at s.at) refl)
 
     -- the end of the walk to the key
-    pub leaves : AreBytes key → Leaves w g key (exit_of w key)
+    pub leaves : ItemsAreBytes key → Leaves w g key (exit_of w key)
     leaves bytes = exits key (stand_in w 0 2) [] [] [] 0 bytes record {
       stands = record { held = refl; home = root refl refl refl; entered = λ ne. ok.root ne; reads = refl; forward = add_zero _; offset = omega arith; bytes = λ i l. absurd (omega arith); plain = inl refl; passed = refl; at_path = λ ne. ok.root ne };
       walks = λ ne. refl;

@@ -11,7 +11,7 @@ use Rattle.trie_image.specs.declared.Role.TheVariants.{Root, Chain, Order, Slot,
 use Rattle.trie_image.specs.declared.Place.{Place}
 use Rattle.trie_image.specs.declared.Advance.{Advance}
 use Rattle.trie_image.specs.declared.Advance.TheVariants.{On, Found, Absent}
-use Rattle.trie_image.specs.Place.{place_at, node_place, follow_by, follow, content_place, prefix_step, slot_step, inward, node_step, step_of, outcome_of, left_at, measure_of}
+use Rattle.trie_image.specs.Place.{place_at, node_place, follow_by, follow, content_place, prefix_step, advance_in_slots, inward, advance_in_node, step_of, outcome_of, left_at, measure_of}
 
 pub get_inside : (l : List ℕ) (i x : ℕ) → slice_get l i ≡ Some x → i < length l
 get_inside [] i x e = absurd (cc)
@@ -46,14 +46,14 @@ follow_below key p taken m None h = tt
 inward_below : (key : List ℕ) (role : Role) (p part taken m : ℕ) → left_at role (length key) taken < m → Below (length key) m (inward role p part taken)
 inward_below key role p part taken m h = below_if (length key) m (p == 0) Absent (On (place_at role p part taken)) (λ e. tt) (λ e. h)
 
-slot_below : (key : List ℕ) (p taken m : ℕ) (o : Option ℕ) → left_at Slot (length key) taken < m → Below (length key) m (slot_step p taken o)
+slot_below : (key : List ℕ) (p taken m : ℕ) (o : Option ℕ) → left_at Slot (length key) taken < m → Below (length key) m (advance_in_slots p taken o)
 slot_below key p taken m None h = tt
 slot_below key p taken m (Some s) h = h
 
 follows_below : (key : List ℕ) (p taken m : ℕ) → taken < length key → 4 * (length key - taken) < m + 3 → Below (length key) m (follow key p (taken + 1))
 follows_below key p taken m l h = follow_below key p (taken + 1) m (kind_at p) (λ r. omega arith)
 
-node_step_below : (key : List ℕ) (p part taken word : ℕ) (role : Role) (o : Option ℕ) → o ≡ slice_get key taken → Below (length key) (left_at role (length key) taken) (node_step key p part taken word role o)
+node_step_below : (key : List ℕ) (p part taken word : ℕ) (role : Role) (o : Option ℕ) → o ≡ slice_get key taken → Below (length key) (left_at role (length key) taken) (advance_in_node key p part taken word role o)
 node_step_below key p part taken word role None e = tt
 node_step_below key p part taken word Chain (Some b) e = let l : taken < length key = get_inside key taken b (sym e) in
     below_if (length key) (4 * (length key - taken)) (byte_of word (p % 32 % 8) == b) (cond (p % 32 == 27) (follow key (half_of word true) (taken + 1)) (cond (nat_lt (p % 32) 27) (follow key (p + 1) (taken + 1)) Absent)) Absent

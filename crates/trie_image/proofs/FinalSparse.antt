@@ -1,7 +1,7 @@
 -- A put that adds a child to a sparse node: the words after its stores, and the image that the publishing one leaves.
 use Rattle.std.proofs.Common.{◌≡◌, ◌≢◌, ℕ, ◌+◌, ◌*◌, ◌/◌, ◌%◌, ◌^◌, ◌<◌, ◌≤◌, ◌==◌, List, [], ◌∷◌, ◌++◌, length, set, slice_index, Option, Some, None, refl, sym, ap, ◌∙◌, subst, inl, inr, ⊎_elim, arith, append_assoc, length-set, get_or-set_other, get_or-set_same}
 use Rattle.std.proofs.lemmas.Bool.{cases_eq}
-use Rattle.cell_layout.specs.Words.{half_of, with_half_of, AreBytes}
+use Rattle.cell_layout.specs.Words.{half_of, with_half_of, ItemsAreBytes}
 use Rattle.cell_layout.specs.Pointers.{kind_at}
 use Rattle.cell_layout.specs.Slots.{slot_at, child_count, word_with, AddsChild}
 use Rattle.cell_layout.proofs.Halves.{this_half}
@@ -43,7 +43,7 @@ use Rattle.trie_image.proofs.Seen.{by_byte}
 use Rattle.trie_image.proofs.NewSplits.{AreNewOwners, none_new, both_new, first_new}
 use Rattle.trie_image.proofs.Whole.{KeepsCells, IsRecorded, changes_old, law, well_formed, places_kept}
 
-module _ (w : List ℕ) (g : Ledger) (cells : ℕ) (key value : List ℕ) (ok : IsWellFormed w g cells) (capacity : length g.owners + cost (length key) (length value) ≤ cells) (bytes : AreBytes key) (s : Stand) (taken : ℕ) (m : MetSparse w g key s taken) (short : length m.rest ≤ length key) where
+module _ (w : List ℕ) (g : Ledger) (cells : ℕ) (key value : List ℕ) (ok : IsWellFormed w g cells) (capacity : length g.owners + cost (length key) (length value) ≤ cells) (bytes : ItemsAreBytes key) (s : Stand) (taken : ℕ) (m : MetSparse w g key s taken) (short : length m.rest ≤ length key) where
   -- the words after the new cells, after the free slot, and after the order word
   abbrev pub made : List ℕ
   made = ready w g cells key value ok.image capacity (exit_with meets.Sparse s taken) m.rest m.byte short

@@ -6,7 +6,7 @@ use Rattle.cell_layout.specs.Pointers.{kind_at}
 use Rattle.cell_layout.proofs.PointerKinds.{is_kind}
 use Rattle.cell_layout.specs.Cells.{lone_words}
 use Rattle.cell_layout.proofs.Added.{slot_small}
-use Rattle.cell_layout.specs.Words.{AreBytes}
+use Rattle.cell_layout.specs.Words.{ItemsAreBytes}
 use Rattle.cell_layout.specs.Slots.{slot_at}
 use Rattle.trie_image.specs.declared.Put.{Put}
 use Rattle.trie_image.specs.declared.Owner.{Owner}
@@ -55,7 +55,7 @@ new_leaf : (w : List ℕ) (c b entry : ℕ) → leaf_field w c b entry b ≡ ent
 unfolding leaf_field
 new_leaf w c b entry = cond-true (b == b) entry (slot_child w c (slot_at (word_of w c 3) b)) (eq-eqb b b refl)
 
-module _ (w : List ℕ) (g : Ledger) (cells : ℕ) (key value : List ℕ) (wf : IsWellFormed w g cells) (counted : length g.puts ≡ slice_index w 0) (least : 1 ≤ length key) (most : length key ≤ 2048) (short_value : IsValue value) (capacity : length g.owners + cost (length key) (length value) ≤ cells) (bytes : AreBytes key) where
+module _ (w : List ℕ) (g : Ledger) (cells : ℕ) (key value : List ℕ) (wf : IsWellFormed w g cells) (counted : length g.puts ≡ slice_index w 0) (least : 1 ≤ length key) (most : length key ≤ 2048) (short_value : IsValue value) (capacity : length g.owners + cost (length key) (length value) ≤ cells) (bytes : ItemsAreBytes key) where
   put : Put
   put = put_at key value (length g.owners)
 
@@ -134,7 +134,7 @@ module _ (w : List ℕ) (g : Ledger) (cells : ℕ) (key value : List ℕ) (wf : 
   below_node q m path s st is f e = let c : 2 ^ 31 ≤ s.entered = is_kind s.entered (Some kind.Content) (held_content q m path s st f e) in let l = node_low s.at is in omega (arith, st.forward)
 
   module _ (meets : Meets) (s : Stand) (taken : ℕ) (start rest : List ℕ) (b : ℕ) (whole : start ++ rest ≡ key) where
-    rest_bytes : AreBytes rest
+    rest_bytes : ItemsAreBytes rest
     rest_bytes = bytes_after start rest key whole bytes
 
     low : 1 ≤ length g.owners

@@ -1,7 +1,7 @@
 -- The word that a place loads lies in the image.
 use Rattle.std.proofs.Common.{◌≡◌, ℕ, ◌+◌, ◌*◌, ◌/◌, ◌%◌, ◌<◌, List, length, Some, arith}
 use Rattle.cell_layout.proofs.Added.{slot_small}
-use Rattle.cell_layout.specs.Words.{AreBytes}
+use Rattle.cell_layout.specs.Words.{ItemsAreBytes}
 use Rattle.cell_layout.proofs.CellBytes.{byte_there}
 use Rattle.trie_image.specs.declared.Role.{Role}
 use Rattle.trie_image.specs.declared.Role.TheVariants.{Root, Chain, Order, Slot, Top, Mid, Leaf, Prefix, Head}
@@ -16,7 +16,7 @@ use Rattle.trie_image.specs.Place.{word_at, next_word_of, IsPlaceAt, IsPlace}
 use Rattle.trie_image.proofs.Owners.{content_of, chain_of, sparse_of, split_node_of, prefix_of}
 use Rattle.trie_image.proofs.Kept.{own_inside}
 
-module _ (w : List ℕ) (g : Ledger) (cells : ℕ) (ok : IsImage w g cells) (key : List ℕ) (bytes : AreBytes key) where
+module _ (w : List ℕ) (g : Ledger) (cells : ℕ) (ok : IsImage w g cells) (key : List ℕ) (bytes : ItemsAreBytes key) where
   -- a word of a cell that has an owner
   within : (c i : ℕ) (o : Owner) → owner g c ≡ Some o → i < 4 → 4 * c + i < length w
   within c i o e l = let inside = own_inside g.owners c o e in omega (arith, ok.size, ok.capacity)

@@ -2,7 +2,7 @@
 use Rattle.std.proofs.Common.{◌≡◌, ℕ, zero, suc, ◌+◌, ◌-◌, ◌*◌, ◌/◌, ◌%◌, ◌^◌, ◌<◌, ◌≤◌, true, List, [], ◌∷◌, ◌++◌, length, take, drop, slice_index, slice_get, Some, refl, sym, ap, ◌∙◌, subst, arith, length-append, ⊎_elim, append_assoc}
 use Rattle.std.proofs.lemmas.List.{get_or-append-add, length-take-le, length-drop, take-append-drop}
 use Rattle.std.proofs.Math.Seq.{take-append_seam}
-use Rattle.cell_layout.specs.Words.{half_of, byte_of, AreBytes}
+use Rattle.cell_layout.specs.Words.{half_of, byte_of, ItemsAreBytes}
 use Rattle.cell_layout.proofs.PointerKinds.{is_chain}
 use Rattle.cell_layout.specs.Cells.{chain_cell, padded, chain_from, next_cell}
 use Rattle.cell_layout.proofs.CellBytes.{bytes_taken, bytes_dropped, byte_of_chain_cell, tail_of_chain_cell, bytes_padded, padded_byte}
@@ -57,7 +57,7 @@ length_chain_owners zero q bytes = refl
 length_chain_owners (suc n) q bytes = ap (λ (x : ℕ). suc x) (length_chain_owners n (q ++ take (length bytes - 28 * n) bytes) (drop (length bytes - 28 * n) bytes))
 
 -- a chain cell whose last bytes these are, and whose tail has the path after them
-pub chain_is : (w : List ℕ) (g : Ledger) (c : ℕ) (q bytes : List ℕ) (next : ℕ) → Stands w c (chain_cell (padded bytes) next) → 1 ≤ length bytes → length bytes ≤ 28 → AreBytes bytes → HasPath g next (q ++ bytes) → IsChainCell w g c (28 - length bytes) (q ++ bytes)
+pub chain_is : (w : List ℕ) (g : Ledger) (c : ℕ) (q bytes : List ℕ) (next : ℕ) → Stands w c (chain_cell (padded bytes) next) → 1 ≤ length bytes → length bytes ≤ 28 → ItemsAreBytes bytes → HasPath g next (q ++ bytes) → IsChainCell w g c (28 - length bytes) (q ++ bytes)
 chain_is w g c q bytes next h some_ few small at = record {
   entered = omega arith;
   long = omega (arith, length-append q bytes);
@@ -103,7 +103,7 @@ module _ (w : List ℕ) (g : Ledger) (end : ℕ) where
   next_path (suc n) f q bytes own small l at = chain_enters n (f + 1) (32 * (f + 1)) q bytes own (omega arith) small (omega arith) (omega arith) (omega arith)
 
   -- the cells of the chain
-  pub chain_cells_are : (n f : ℕ) (q bytes : List ℕ) → Stands w f (chain_from f n bytes end) → Owns g f (chain_owners n q bytes) → f + n < 2 ^ 26 → length bytes ≤ 28 * n → 28 * n < length bytes + 28 → AreBytes bytes → HasPath g end (q ++ bytes) → AreCells w g f (chain_owners n q bytes)
+  pub chain_cells_are : (n f : ℕ) (q bytes : List ℕ) → Stands w f (chain_from f n bytes end) → Owns g f (chain_owners n q bytes) → f + n < 2 ^ 26 → length bytes ≤ 28 * n → 28 * n < length bytes + 28 → ItemsAreBytes bytes → HasPath g end (q ++ bytes) → AreCells w g f (chain_owners n q bytes)
   chain_cells_are zero f q bytes h own small few more are at = λ j o e. absurd (cc)
   chain_cells_are (suc n) f q bytes h own small few more are at =
       let part : List ℕ = take (length bytes - 28 * n) bytes in let after : List ℕ = drop (length bytes - 28 * n) bytes in

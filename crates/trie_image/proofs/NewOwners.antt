@@ -6,7 +6,7 @@ use Rattle.cell_layout.specs.declared.Kind.TheVariants as kind
 use Rattle.cell_layout.specs.Pointers.{kind_at, record_cell}
 use Rattle.cell_layout.proofs.PointerKinds.{is_chain}
 use Rattle.cell_layout.specs.Cells.{record_cells, record_words, chain_cells, chain_from}
-use Rattle.cell_layout.specs.Words.{AreBytes}
+use Rattle.cell_layout.specs.Words.{ItemsAreBytes}
 use Rattle.cell_layout.proofs.WordsAt.{length_record_words}
 use Rattle.trie_image.specs.declared.Put.{Put}
 use Rattle.trie_image.specs.declared.Owner.{Owner}
@@ -99,7 +99,7 @@ module _ (g' : Ledger) (n used : ℕ) (put : Put) (start rest : List ℕ) (more 
       by (b ∷ r) e = (entry_chain (λ z. let two : b ∷ r ≡ [] = sym e ∙ z in absurd (cc))).0
 
   -- the cells of both
-  pub first_cells_are : (w' : List ℕ) → put.cell ≡ used → AreBytes rest → Stands w' used (record_words (n + 1) put.value ++ chain_from (used + record_cells (length put.value)) (chain_cells (length rest)) rest (content_of used)) → AreCells w' g' used (first_owners n put.value start rest)
+  pub first_cells_are : (w' : List ℕ) → put.cell ≡ used → ItemsAreBytes rest → Stands w' used (record_words (n + 1) put.value ++ chain_from (used + record_cells (length put.value)) (chain_cells (length rest)) rest (content_of used)) → AreCells w' g' used (first_owners n put.value start rest)
   first_cells_are w' at bytes h = let record_ : List ℕ = record_words (n + 1) put.value in let chain : List ℕ = chain_from (used + record_cells (length put.value)) (chain_cells (length rest)) rest (content_of used) in
       cells_joined w' g' used (used + record_cells (length put.value)) (record_owners n (record_cells (length put.value))) (chain_owners (chain_cells (length rest)) start rest) (omega (arith, length_range_owners n 0 (record_cells (length put.value))))
       (record_cells_are w' g' used n put (stands_front w' used record_ chain h) at there)

@@ -6,7 +6,7 @@ use Rattle.cell_layout.specs.declared.Kind.{Kind}
 use Rattle.cell_layout.specs.declared.Kind.TheVariants as kind
 use Rattle.cell_layout.specs.Pointers.{kind_at}
 use Rattle.cell_layout.specs.Slots.{slot_at}
-use Rattle.cell_layout.specs.Words.{AreBytes}
+use Rattle.cell_layout.specs.Words.{ItemsAreBytes}
 use Rattle.cell_layout.proofs.CellBytes.{byte_there}
 use Rattle.trie_image.specs.declared.Role.{Role}
 use Rattle.trie_image.specs.declared.Role.TheVariants.{Root, Chain, Order, Slot, Top, Mid, Leaf, Prefix, Head}
@@ -77,7 +77,7 @@ module _ (w w' : List ℕ) (g g' : Ledger) (cells : ℕ) (ok : IsImage w g cells
   abbrev PlaceLaw : List ℕ → ℕ → ℕ → ℕ → Role → Type 0
   PlaceLaw k p part taken role = IsPlaceAt w' g' k p part taken role × SameOrNew k (role_sees w k p part taken role) (role_sees w' k p part taken role)
 
-  place_law : (k : List ℕ) → AreBytes k → (p part taken : ℕ) (role : Role) → IsPlaceAt w g k p part taken role → PlaceLaw k p part taken role
+  place_law : (k : List ℕ) → ItemsAreBytes k → (p part taken : ℕ) (role : Role) → IsPlaceAt w g k p part taken role → PlaceLaw k p part taken role
   place_law k bytes p part taken Root h = (h, roots k)
   place_law k bytes p part taken Head (at, is, len) = let whole : take taken k ≡ k = take_all taken k (omega arith) in ((grows p k at, is, len), at_pointer k taken p (subst (λ (l : List ℕ). HasPath g p l) (sym whole) at))
   place_law k bytes p part taken Prefix (at, is, le) = ((grows p (take taken k) at, is, le), at_pointer k taken p at)

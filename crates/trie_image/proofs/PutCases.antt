@@ -8,7 +8,7 @@ use Rattle.cell_layout.specs.Slots.{slot_at, child_count, word_with, AddsChild}
 use Rattle.cell_layout.proofs.PointerKinds.{is_kind, is_chain}
 use Rattle.cell_layout.proofs.Added.{adds_child}
 use Rattle.cell_layout.specs.Cells.{lone_words}
-use Rattle.cell_layout.specs.Words.{AreBytes}
+use Rattle.cell_layout.specs.Words.{ItemsAreBytes}
 use Rattle.trie_image.specs.declared.Owner.{Owner}
 use Rattle.trie_image.specs.declared.Owner.TheVariants.{SparseCell, TopCell, MidCell, LeafCell, PrefixCell}
 use Rattle.trie_image.specs.declared.Ledger.{Ledger}
@@ -41,7 +41,7 @@ use Rattle.trie_image.proofs.PutHomes.{ForCell, home_publishes}
 use Rattle.trie_image.proofs.SparseWords.{sparse_fits}
 
 -- bytes after a path
-pub bytes_after : (path rest key : List ℕ) → path ++ rest ≡ key → AreBytes key → AreBytes rest
+pub bytes_after : (path rest key : List ℕ) → path ++ rest ≡ key → ItemsAreBytes key → ItemsAreBytes rest
 bytes_after path rest key e h k = subst (λ (x : ℕ). x < 256) (sym (sym (get_or-append-add path rest k 0) ∙ ap (λ (l : List ℕ). slice_index l (length path + k)) e)) (h (length path + k))
 
 -- a node's pointer behind passed bytes
@@ -64,7 +64,7 @@ content_above p k = is_kind p (Some kind.Content) k
 offset_is : (x off : ℕ) → 1 ≤ x → x + 64 < 2 ^ 26 → off < 32 → kind_at (32 * x + off) ≡ kind_at_offset off
 offset_is x off low high l = let o : (32 * x + off) % 32 ≡ off = omega arith in kind_by_offset (32 * x + off) (λ z. omega arith) (omega arith) ∙ ap (λ (y : ℕ). kind_at_offset y) o
 
-module _ (w w1 : List ℕ) (g : Ledger) (cells used : ℕ) (key value : List ℕ) (ok : IsImage w g cells) (same : IsSame w w1 g) (taken_is : length g.owners ≡ used) (counted : length g.puts ≡ slice_index w 0) (capacity : used + cost (length key) (length value) ≤ cells) (bytes : AreBytes key) (s : Stand) (taken : ℕ) where
+module _ (w w1 : List ℕ) (g : Ledger) (cells used : ℕ) (key value : List ℕ) (ok : IsImage w g cells) (same : IsSame w w1 g) (taken_is : length g.owners ≡ used) (counted : length g.puts ≡ slice_index w 0) (capacity : used + cost (length key) (length value) ≤ cells) (bytes : ItemsAreBytes key) (s : Stand) (taken : ℕ) where
   -- what a prefix cell in which the walk stands holds
   held_content : (q m path : List ℕ) → StandsAt w g q m path s → owner g s.cell ≡ Some (PrefixCell q) → s.field ≡ 0 → (kind_at s.entered ≡ Some kind.Content) × (s.entered ≢ 0)
   held_content q m path h own z = let cell : IsPrefixCell w g s.cell q = ok.each s.cell (PrefixCell q) own in let e : field w s.cell 0 ≡ s.entered = ap (λ (x : ℕ). field w s.cell x) (sym z) ∙ h.held in

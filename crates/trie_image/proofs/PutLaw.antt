@@ -1,7 +1,7 @@
 -- The stores of a put do what they are for, in every well-formed image that has room for it.
 use Rattle.std.proofs.Common.{◌≡◌, ◌≢◌, ◌⊎◌, ℕ, zero, suc, ◌+◌, ◌*◌, ◌/◌, ◌%◌, ◌<◌, ◌≤◌, ◌==◌, List, [], ◌∷◌, ◌++◌, length, take, drop, set, slice_index, Some, refl, sym, ap, ◌∙◌, subst, inl, inr, ⊎_elim, arith, append_assoc, append-nil, length-append, get_or-set_same}
 use Rattle.std.proofs.Math.Seq.{get_or-append_seam}
-use Rattle.cell_layout.specs.Words.{with_half_of, AreBytes}
+use Rattle.cell_layout.specs.Words.{with_half_of, ItemsAreBytes}
 use Rattle.cell_layout.specs.Slots.{child_count, word_with}
 use Rattle.trie_image.specs.declared.Owner.{Owner}
 use Rattle.trie_image.specs.declared.Owner.TheVariants.{HeadCell, SparseCell, TopCell, MidCell}
@@ -76,7 +76,7 @@ both_inside : (n : ℕ) (a b : List WordStore) → AreInside n a → AreInside n
 both_inside n [] b h k = k
 both_inside n (s ∷ a) b h k = (h.0, h.1, both_inside n a b h.2 k)
 
-module _ (w : List ℕ) (g : Ledger) (cells : ℕ) (key value : List ℕ) (wf : IsWellFormed w g cells) (counted : length g.puts ≡ slice_index w 0) (least : 1 ≤ length key) (most : length key ≤ 2048) (short_value : IsValue value) (capacity : length g.owners + cost (length key) (length value) ≤ cells) (bytes : AreBytes key) where
+module _ (w : List ℕ) (g : Ledger) (cells : ℕ) (key value : List ℕ) (wf : IsWellFormed w g cells) (counted : length g.puts ≡ slice_index w 0) (least : 1 ≤ length key) (most : length key ≤ 2048) (short_value : IsValue value) (capacity : length g.owners + cost (length key) (length value) ≤ cells) (bytes : ItemsAreBytes key) where
   -- the count, after a publishing store
   module _ (w' : List ℕ) (own : List Owner) (done : IsPublished w w' g cells own (put_at key value (length g.owners))) where
     alike : IsSame w' (set w' 0 (slice_index w 0 + 1)) (with_put g own (put_at key value (length g.owners)))

@@ -5,7 +5,7 @@ use Rattle.std.specs.List.{range_with_len}
 use Rattle.cell_layout.specs.declared.Kind.TheVariants as kind
 use Rattle.cell_layout.specs.Pointers.{kind_at}
 use Rattle.cell_layout.specs.Cells.{record_cells, record_words, chain_cells, chain_from}
-use Rattle.cell_layout.specs.Words.{AreBytes}
+use Rattle.cell_layout.specs.Words.{ItemsAreBytes}
 use Rattle.trie_image.specs.declared.Owner.{Owner}
 use Rattle.trie_image.specs.declared.Owner.TheVariants.{HeadCell, ChainCell, TopCell, MidCell, LeafCell}
 use Rattle.trie_image.specs.declared.Ledger.{Ledger}
@@ -80,7 +80,7 @@ pub record IsPrepared (w1 : List ℕ) (g : Ledger) (cells used : ℕ) (key value
   pub image : AreCells w1 (ledger_after g used key value start rest more) (first_further used value rest) more → IsImage w1 (ledger_after g used key value start rest more) cells
 
 module _ (w w1 : List ℕ) (g : Ledger) (cells used : ℕ) (key value : List ℕ) (ok : IsImage w g cells) (same : IsSame w w1 g) (taken : length g.owners ≡ used) (counted : length g.puts ≡ slice_index w 0) (start rest : List ℕ) (more : List Owner)
-    (few : length more ≤ 15) (capacity : used + cost (length key) (length value) ≤ cells) (short : length rest ≤ length key) (whole : start ++ rest ≡ key) (bytes : AreBytes rest) where
+    (few : length more ≤ 15) (capacity : used + cost (length key) (length value) ≤ cells) (short : length rest ≤ length key) (whole : start ++ rest ≡ key) (bytes : ItemsAreBytes rest) where
   low : 1 ≤ used
   low = let l = own_inside g.owners 0 HeadCell ok.head in omega arith
 

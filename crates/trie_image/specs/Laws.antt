@@ -1,6 +1,6 @@
 -- The laws of the trie: what holds of paths, places and stores in every image. A well-formed image is one.
 use Rattle.std.specs.Prelude.{◌≡◌, ◌≢◌, ◌⊎◌, ℕ, ◌+◌, ◌*◌, ◌^◌, ◌<◌, ◌≤◌, ◌/◌, ◌%◌, ◌==◌, List, length, slice_get, slice_index, slice_set, replicate, Option, Some, None, [], ◌∷◌, ◌++◌}
-use Rattle.cell_layout.specs.Words.{with_half_of, byte_of, AreBytes}
+use Rattle.cell_layout.specs.Words.{with_half_of, byte_of, ItemsAreBytes}
 use Rattle.cell_layout.specs.Slots.{slot_at}
 use Rattle.trie_image.specs.declared.Place.{Place}
 use Rattle.trie_image.specs.declared.Advance.{Advance}
@@ -49,7 +49,7 @@ LawOpening = (cells : ℕ) → 1 ≤ cells → cells ≤ 2 ^ 22 → IsWellFormed
 
 -- the start is a place of every image, it sees what the root sees, and its number is at most 4 * len + 3
 abbrev pub LawStart : Type 0
-LawStart = ((w : List ℕ) (g : Ledger) (key : List ℕ) → AreBytes key → IsPlace w g key start_place × (place_sees w key start_place ≡ sees_from (reading w) (root_of w) key))
+LawStart = ((w : List ℕ) (g : Ledger) (key : List ℕ) → ItemsAreBytes key → IsPlace w g key start_place × (place_sees w key start_place ≡ sees_from (reading w) (root_of w) key))
     × ((len : ℕ) → measure_of start_place len ≤ 4 * len + 3)
 
 -- the word that a place loads lies in the image

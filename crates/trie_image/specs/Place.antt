@@ -3,7 +3,7 @@
 use Rattle.std.specs.Prelude.{◌≡◌, ℕ, ◌+◌, ◌-◌, ◌*◌, ◌/◌, ◌%◌, ◌<◌, ◌≤◌, ◌==◌, nat_lt, nat_le, if◌then◌else◌, true, false, List, length, take, drop, slice_get, Option, Some, None}
 use Rattle.cell_layout.specs.declared.Kind.{Kind}
 use Rattle.cell_layout.specs.declared.Kind.TheVariants as kind
-use Rattle.cell_layout.specs.Words.{half_of, byte_of, AreBytes}
+use Rattle.cell_layout.specs.Words.{half_of, byte_of, ItemsAreBytes}
 use Rattle.cell_layout.specs.Pointers.{kind_at, record_cell}
 use Rattle.cell_layout.specs.Slots.{slot_at}
 use Rattle.trie_image.specs.declared.Role.{Role}
@@ -65,30 +65,30 @@ abbrev pub prefix_step : List ℕ → ℕ → ℕ → Advance
 prefix_step key word taken = if taken == length key then content_place (half_of word false) taken (kind_at (half_of word false))
     else node_place key (half_of word true) taken (kind_at (half_of word true)) (slice_get key taken)
 
-abbrev pub slot_step : ℕ → ℕ → Option ℕ → Advance
-slot_step p taken None = Absent
-slot_step p taken (Some s) = On (place_at Slot p s taken)
+abbrev pub advance_in_slots : ℕ → ℕ → Option ℕ → Advance
+advance_in_slots p taken None = Absent
+advance_in_slots p taken (Some s) = On (place_at Slot p s taken)
 
 -- a cell further into a split node
 abbrev pub inward : Role → ℕ → ℕ → ℕ → Advance
 inward role p part taken = if p == 0 then Absent else On (place_at role p part taken)
 
 -- the step of a place inside a node, at the next byte of the key
-abbrev pub node_step : List ℕ → ℕ → ℕ → ℕ → ℕ → Role → Option ℕ → Advance
-node_step key p part taken word role None = Absent
-node_step key p part taken word Chain (Some b) = if byte_of word (p % 32 % 8) == b then (if p % 32 == 27 then follow key (half_of word true) (taken + 1) else (if nat_lt (p % 32) 27 then follow key (p + 1) (taken + 1) else Absent)) else Absent
-node_step key p part taken word Order (Some b) = slot_step p taken (slot_at word b)
-node_step key p part taken word Slot (Some b) = follow key (half_of word (part % 2 == 1)) (taken + 1)
-node_step key p part taken word Top (Some b) = inward Mid (half_of word (part / 64 % 2 == 1)) part taken
-node_step key p part taken word Mid (Some b) = inward Leaf (half_of word (part / 8 % 8 % 2 == 1)) part taken
-node_step key p part taken word Leaf (Some b) = follow key (half_of word (part % 8 % 2 == 1)) (taken + 1)
-node_step key p part taken word _ (Some b) = Absent
+abbrev pub advance_in_node : List ℕ → ℕ → ℕ → ℕ → ℕ → Role → Option ℕ → Advance
+advance_in_node key p part taken word role None = Absent
+advance_in_node key p part taken word Chain (Some b) = if byte_of word (p % 32 % 8) == b then (if p % 32 == 27 then follow key (half_of word true) (taken + 1) else (if nat_lt (p % 32) 27 then follow key (p + 1) (taken + 1) else Absent)) else Absent
+advance_in_node key p part taken word Order (Some b) = advance_in_slots p taken (slot_at word b)
+advance_in_node key p part taken word Slot (Some b) = follow key (half_of word (part % 2 == 1)) (taken + 1)
+advance_in_node key p part taken word Top (Some b) = inward Mid (half_of word (part / 64 % 2 == 1)) part taken
+advance_in_node key p part taken word Mid (Some b) = inward Leaf (half_of word (part / 8 % 8 % 2 == 1)) part taken
+advance_in_node key p part taken word Leaf (Some b) = follow key (half_of word (part % 8 % 2 == 1)) (taken + 1)
+advance_in_node key p part taken word _ (Some b) = Absent
 
 abbrev pub step_of : List ℕ → ℕ → ℕ → ℕ → ℕ → Role → Advance
 step_of key p part taken word Root = follow key (half_of word false) 0
 step_of key p part taken word Prefix = prefix_step key word taken
 step_of key p part taken word Head = Found record { cell = record_cell p; number = half_of word false; length = half_of word true }
-step_of key p part taken word role = node_step key p part taken word role (slice_get key taken)
+step_of key p part taken word role = advance_in_node key p part taken word role (slice_get key taken)
 
 -- what a place's word leads to
 unfoldable pub outcome_of : Place → ℕ → List ℕ → Advance
@@ -126,7 +126,7 @@ IsPlaceAt w g key p part taken Leaf = (t : ℕ) × (owner g (p / 32) ≡ Some (L
 
 -- the place is one of the image for the key, which is a list of bytes
 pub record IsPlace (w : List ℕ) (g : Ledger) (key : List ℕ) (pl : Place) : Type 0 where
-  pub bytes : AreBytes key
+  pub bytes : ItemsAreBytes key
   pub role : IsPlaceAt w g key pl.ptr pl.part pl.taken pl.role
 
 -- what a place sees for the rest of the key: what the words that it still loads lead to

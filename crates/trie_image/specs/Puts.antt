@@ -1,15 +1,15 @@
 -- The puts of an image and the map that they leave. This project's own.
 use Rattle.std.specs.Prelude.{◌≡◌, ◌≢◌, ℕ, ◌+◌, ◌<◌, ◌≤◌, List, length, slice_get, slice_index, Option, Some, None}
-use Rattle.cell_layout.specs.Words.{AreBytes}
+use Rattle.cell_layout.specs.Words.{ItemsAreBytes}
 use Rattle.trie_image.specs.declared.Put.{Put}
 use Rattle.trie_image.specs.declared.Rec.{Rec}
 
 -- the limits of a put's key and of its value
 abbrev pub IsKey : List ℕ → Type 0
-IsKey key = (1 ≤ length key) × (length key ≤ 2048) × AreBytes key
+IsKey key = (1 ≤ length key) × (length key ≤ 2048) × ItemsAreBytes key
 
 abbrev pub IsValue : List ℕ → Type 0
-IsValue value = (length value ≤ 65535) × AreBytes value
+IsValue value = (length value ≤ 65535) × ItemsAreBytes value
 
 -- put number n, from 0, is the key's last put: no later put has the key
 pub record IsLastPut (puts : List Put) (key : List ℕ) (n : ℕ) (put : Put) : Type 0 where

@@ -4,7 +4,7 @@
 
 ghost use Rattle.std.specs.Prelude.{◌≡◌, ◌<◌, ◌^◌, ◌*◌, ℕ, length, slice_get, Some, None};
 ghost use Rattle.trie_image.specs.declared.Ledger.{Ledger};
-ghost use Rattle.trie_image.specs.Place.{start_place, next_word_of, outcome_of, follow, node_place, inward, prefix_step, node_step};
+ghost use Rattle.trie_image.specs.Place.{start_place, next_word_of, outcome_of, follow, node_place, inward, prefix_step, advance_in_node};
 ghost use Rattle.trie_image.specs.Puts.{HasLastPut};
 ghost use Rattle.trie_image.specs.WellFormed.{IsWellFormed, HasLedger};
 ghost use Rattle.trie_image.specs.Way.{OnTheWay, LeadsTo};
@@ -149,7 +149,7 @@ fn prefix_step(key: &[u8], loaded: u64, taken: u32) -> Advance
 fn chain_step(key: &[u8], p: u32, taken: u32, loaded: u64, byte: u8) -> Advance
     requires inside { taken < length key.now }
     requires small { length key.now < 2 ^ 32 }
-    ensures { result ≡ node_step key.now p 0 taken loaded Role.Chain (Some byte) }
+    ensures { result ≡ advance_in_node key.now p 0 taken loaded Role.Chain (Some byte) }
 {
     let offset = p % 32;
     if offset > 27 {
@@ -165,10 +165,10 @@ fn chain_step(key: &[u8], p: u32, taken: u32, loaded: u64, byte: u8) -> Advance
 }
 
 #[inline(always)]
-fn node_step(key: &[u8], place: &Place, loaded: u64, byte: u8) -> Advance
+fn advance_in_node(key: &[u8], place: &Place, loaded: u64, byte: u8) -> Advance
     requires inside { place.now.taken < length key.now }
     requires small { length key.now < 2 ^ 32 }
-    ensures { result ≡ node_step key.now place.now.ptr place.now.part place.now.taken loaded place.now.role (Some byte) }
+    ensures { result ≡ advance_in_node key.now place.now.ptr place.now.part place.now.taken loaded place.now.role (Some byte) }
 {
     let p = Ptr(place.ptr);
     let part = place.part;
@@ -214,7 +214,7 @@ pub fn advance(place: &Place, loaded: u64, key: &[u8]) -> Advance
             })
         }
         _ => match key.get(place.taken as usize) {
-            Some(&byte) => node_step(key, place, loaded, byte),
+            Some(&byte) => advance_in_node(key, place, loaded, byte),
             None => Advance::Absent,
         },
     }

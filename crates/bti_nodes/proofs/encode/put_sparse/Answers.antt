@@ -1,4 +1,4 @@
-use Rattle.bti_nodes.proofs.Kept.{still, in_front}
+use Rattle.key_types.proofs.Kept.{still, in_front}
 use Rattle.bti_nodes.proofs.encode.put_sparse.Goals as goal
 
 pub returns-clause-kept : goal.returns-clause-kept

@@ -1,7 +1,7 @@
 use Rattle.std.proofs.Common.{◌≡◌, ◌+◌, ◌-◌, map, sym, ◌∙◌, ap, arith}
 use Rattle.std.specs.List.{range_with_len}
 use Rattle.bti_nodes.specs.Grammar.{child_by}
-use Rattle.bti_nodes.specs.Children.{first_child, any, or_else}
+use Rattle.bti_nodes.specs.Children.{first_child, any, child_or}
 use Rattle.bti_nodes.proofs.Sides.{step_up}
 use Rattle.bti_nodes.proofs.view.first_from.Goals as goal
 
@@ -10,14 +10,14 @@ returns-in-Some c =
     let f = child_by c.args.kind c.args.places c.args.bytes.now in
     let i = c.loop-i.i in
     let rest = first_child any (map f (range_with_len (i + 1) (c.args.places - (i + 1)))) in
-    sym (sym c.loop-i.invariant ∙ step_up f i c.args.places c.loop-i-test.true ∙ ap (λ x. or_else x rest) (sym c.in-Some.ensures))
+    sym (sym c.loop-i.invariant ∙ step_up f i c.args.places c.loop-i-test.true ∙ ap (λ x. child_or x rest) (sym c.in-Some.ensures))
 
 pub loop-i-preserved : goal.loop-i-preserved
 loop-i-preserved c =
     let f = child_by c.args.kind c.args.places c.args.bytes.now in
     let i = c.loop-i.i in
     let rest = first_child any (map f (range_with_len (i + 1) (c.args.places - (i + 1)))) in
-    ap (λ x. or_else x rest) c.in_default.ensures ∙ sym (step_up f i c.args.places c.loop-i-test.true) ∙ c.loop-i.invariant
+    ap (λ x. child_or x rest) c.in_default.ensures ∙ sym (step_up f i c.args.places c.loop-i-test.true) ∙ c.loop-i.invariant
 
 pub returns : goal.returns
 returns c =

@@ -1,5 +1,5 @@
 use Rattle.std.proofs.Common.{◌≡◌, false, refl, rules}
-use Rattle.length_prefix.specs.Counted.{count_in, IsCutOff}
+use Rattle.length_prefix.specs.Counted.{stated_length, IsCutOff}
 use Rattle.data_file.specs.Parsing.{counts_too_many}
 use Rattle.data_file.proofs.Cuts.{cut_clustering, cut_not_framed, cut_value, not_ok}
 use Rattle.data_file.proofs.Frames.{framed}
@@ -7,7 +7,7 @@ use Rattle.data_file.proofs.parse.row_frame.Goals as goal
 
 pub returns-in_default-clause-short : goal.returns-in_default-clause-short
 returns-in_default-clause-short c =
-    let few : counts_too_many (count_in c.args.bytes.now) ≡ false = search rules in
+    let few : counts_too_many (stated_length c.args.bytes.now) ≡ false = search rules in
     let cut : IsCutOff c.args.bytes.now = search rules in
     (λ short. cut_clustering c.args.bytes.now few cut, λ known. refl)
 
@@ -24,7 +24,7 @@ returns-in-Some-counted-clause-short c =
 
 pub returns-in-None-clause-short : goal.returns-in-None-clause-short
 returns-in-None-clause-short c =
-    let few : counts_too_many (count_in c.args.bytes.now) ≡ false = search rules in (
+    let few : counts_too_many (stated_length c.args.bytes.now) ≡ false = search rules in (
       λ short. cut_value c.args.bytes.now c.in-Some.clustering.now c.in-Some.rest.now few c.in-Some.ensures.some.0 c.in-Some.ensures.some.1 (c.in-None.ensures.none refl),
       λ cut. refl,
     )

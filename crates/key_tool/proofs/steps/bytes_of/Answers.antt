@@ -1,5 +1,5 @@
 use Rattle.std.proofs.Common.{rules}
-use Rattle.key_tool.proofs.Hexadecimal.{is_read, is_refused}
+use Rattle.key_text.proofs.Hexadecimal.{is_read, is_refused}
 use Rattle.key_tool.proofs.steps.bytes_of.Goals as goal
 
 pub returns-in-Ok : goal.returns-in-Ok

@@ -1,6 +1,6 @@
 use Rattle.std.proofs.Common.{arith, rules}
 use Rattle.key_types.proofs.Octets.{are_bytes}
-use Rattle.key_tool.proofs.Hexadecimal.{encoded}
+use Rattle.key_text.proofs.Hexadecimal.{encoded}
 use Rattle.key_tool.proofs.steps.hex_line.Goals as goal
 
 pub returns : goal.returns

@@ -11,6 +11,6 @@ returns-in_err-open_partition-clause-written g c =
 
 pub returns-clause-written : goal.returns-clause-written
 returns-clause-written g c =
-    then_puts (g.K.Store.files c.args.store.now) (g.K.Store.files c.open_partition.new.store) (g.K.Store.files c.put_fixed.new.store)
-    c.args.writer.now.file c.open_partition.new.self.file c.put_fixed.result c.args.writer.now.pending _ c.open_partition.new.self.pending _ c.put_fixed.new.writer.pending
-    c.open_partition.ensures.file c.in_ok-open_partition.ensures.written c.put_fixed.ensures.written
+    then_puts (g.K.Store.files c.args.store.now) (g.K.Store.files c.open_partition.new.store) (g.K.Store.files c.put_static_part.new.store)
+    c.args.writer.now.file c.open_partition.new.self.file c.put_static_part.result c.args.writer.now.pending _ c.open_partition.new.self.pending _ c.put_static_part.new.writer.pending
+    c.open_partition.ensures.file c.in_ok-open_partition.ensures.written c.put_static_part.ensures.written

@@ -49,14 +49,14 @@ pub put_row-requires-clause-place : goal.put_row-requires-clause-place
 put_row-requires-clause-place g c =
     let columns = columns_of c.args.schema.now in
     let static = c.args.schema.now.static_value in
-    let fixed = option_copied c.fixed_by-fixed.result in
+    let static_part = option_copied c.static_part_by-static_part.result in
     let small = whole_short columns static c.args.rows.now.entries c.requires.entries c.requires.count in
-    let split = bytes_split columns (option_copied c.entries.last) c.in-Some.ensures.steps c.as_slice.ensures c.part.ensures.partition c.part.ensures.clustering c.as_slice-value.ensures static fixed c.fixed_by-fixed.ensures in
+    let split = bytes_split columns (option_copied c.entries.last) c.in-Some.ensures.steps c.as_slice.ensures c.part.ensures.partition c.part.ensures.clustering c.as_slice-value.ensures static static_part c.static_part_by-static_part.ensures in
     omega (
       arith,
       c.entries.invariant.place,
       ap length split,
-      length-append (before_row static (option_copied c.entries.last) c.part.result.0.now fixed)
+      length-append (before_row static (option_copied c.entries.last) c.part.result.0.now static_part)
           (written_row c.part.result.1.now c.as_slice-value.result.now ++ left_bytes static (Some c.part.result.0.now) (grouped columns c.next.new.self)),
       c.in_ok-turn_to.ensures.position,
     )
@@ -68,11 +68,11 @@ returns-in_err-turn_to-clause-written g c =
     let f2 = g.K.Store.files c.turn_to.new.store in
     let columns = columns_of c.args.schema.now in
     let static = c.args.schema.now.static_value in
-    let fixed = option_copied c.fixed_by-fixed.result in
+    let static_part = option_copied c.static_part_by-static_part.result in
     let whole = data_bytes static (grouped columns c.args.rows.now.entries) in
-    let split = bytes_split columns (option_copied c.entries.last) c.in-Some.ensures.steps c.as_slice.ensures c.part.ensures.partition c.part.ensures.clustering c.as_slice-value.ensures static fixed c.fixed_by-fixed.ensures in
+    let split = bytes_split columns (option_copied c.entries.last) c.in-Some.ensures.steps c.as_slice.ensures c.part.ensures.partition c.part.ensures.clustering c.as_slice-value.ensures static static_part c.static_part_by-static_part.ensures in
     failed_finish f0 f2 (data_id first_generation) c.from_residual.result whole (search rules)
-    (piece_failed f0 f1 f2 (data_id first_generation) c.entries.writer.file c.entries.writer.pending (before_row static (option_copied c.entries.last) c.part.result.0.now fixed) _ whole c.entries.invariant.file
+    (piece_failed f0 f1 f2 (data_id first_generation) c.entries.writer.file c.entries.writer.pending (before_row static (option_copied c.entries.last) c.part.result.0.now static_part) _ whole c.entries.invariant.file
     (subst (λ (rest : List ℕ). Left f0 f1 (data_id first_generation) c.entries.writer.pending rest whole) split c.entries.invariant.written) c.in_err-turn_to.ensures.written)
 
 pub returns-in_err-put_row-clause-written : goal.returns-in_err-put_row-clause-written
@@ -83,12 +83,12 @@ returns-in_err-put_row-clause-written g c =
     let f3 = g.K.Store.files c.put_row.new.store in
     let columns = columns_of c.args.schema.now in
     let static = c.args.schema.now.static_value in
-    let fixed = option_copied c.fixed_by-fixed.result in
+    let static_part = option_copied c.static_part_by-static_part.result in
     let whole = data_bytes static (grouped columns c.args.rows.now.entries) in
-    let before = before_row static (option_copied c.entries.last) c.part.result.0.now fixed in
+    let before = before_row static (option_copied c.entries.last) c.part.result.0.now static_part in
     let row = written_row c.part.result.1.now c.as_slice-value.result.now in
     let rest = left_bytes static (Some c.part.result.0.now) (grouped columns c.next.new.self) in
-    let split = bytes_split columns (option_copied c.entries.last) c.in-Some.ensures.steps c.as_slice.ensures c.part.ensures.partition c.part.ensures.clustering c.as_slice-value.ensures static fixed c.fixed_by-fixed.ensures in
+    let split = bytes_split columns (option_copied c.entries.last) c.in-Some.ensures.steps c.as_slice.ensures c.part.ensures.partition c.part.ensures.clustering c.as_slice-value.ensures static static_part c.static_part_by-static_part.ensures in
     failed_finish f0 f3 (data_id first_generation) c.from_residual-in_err-put_row.result whole (search rules)
     (piece_failed f0 f2 f3 (data_id first_generation) c.turn_to.new.writer.file c.turn_to.new.writer.pending row rest whole (c.turn_to.ensures.file ∙ c.entries.invariant.file)
     (piece_put f0 f1 f2 (data_id first_generation) c.entries.writer.file c.entries.writer.pending before (row ++ rest) c.turn_to.new.writer.pending whole
@@ -104,12 +104,12 @@ entries-preserved g c =
     let columns = columns_of c.args.schema.now in
     let static = c.args.schema.now.static_value in
     let last = option_copied c.entries.last in
-    let fixed = option_copied c.fixed_by-fixed.result in
+    let static_part = option_copied c.static_part_by-static_part.result in
     let whole = data_bytes static (grouped columns c.args.rows.now.entries) in
-    let before = before_row static last c.part.result.0.now fixed in
+    let before = before_row static last c.part.result.0.now static_part in
     let row = written_row c.part.result.1.now c.as_slice-value.result.now in
     let rest = left_bytes static (Some c.part.result.0.now) (grouped columns c.next.new.self) in
-    let split = bytes_split columns last c.in-Some.ensures.steps c.as_slice.ensures c.part.ensures.partition c.part.ensures.clustering c.as_slice-value.ensures static fixed c.fixed_by-fixed.ensures in
+    let split = bytes_split columns last c.in-Some.ensures.steps c.as_slice.ensures c.part.ensures.partition c.part.ensures.clustering c.as_slice-value.ensures static static_part c.static_part_by-static_part.ensures in
     let counts = count_split columns last c.in-Some.ensures.steps c.as_slice.ensures c.part.ensures.partition c.part.ensures.clustering c.as_slice-value.ensures in
     let rows = rows_split columns last c.in-Some.ensures.steps c.as_slice.ensures c.part.ensures.partition c.part.ensures.clustering c.as_slice-value.ensures in
     record {

@@ -9,5 +9,5 @@ returns c = record {
     row_named columns partition clustering value fits within,
     is_row_entry columns partition (key_string columns.clustering clustering) value fits ∙ some_key columns.clustering clustering within,
   );
-  fixed = λ columns type partition value is fits. (static_line_named columns type partition value is fits, is_static_entry columns partition value fits);
+  static_part = λ columns type partition value is fits. (static_line_named columns type partition value is fits, is_static_entry columns partition value fits);
 }

@@ -3,25 +3,21 @@ use Rattle.std.proofs.lemmas.List.{nil_from_length}
 use Rattle.key_types.specs.Columns.{columns_of}
 use Rattle.table_tool.specs.Grouping.{IsBehind}
 use Rattle.table_tool.specs.Lines.{EndsLine}
-use Rattle.table_tool.proofs.PrintedLemmas.{line_ended, ok_so}
+use Rattle.table_tool.proofs.PrintedLemmas.{ok_so}
 use Rattle.table_tool.proofs.printing.put_entry.Goals as goal
 
 pub end_static-requires : goal.end_static-requires
 end_static-requires c =
     let empty : c.args.clustering.now ≡ [] = nil_from_length c.args.clustering.now (eqb-true (length c.args.clustering.now) 0 (sym c.is_empty.ensures ∙ c.if-is_empty.true)) in
-    subst (λ (b : List ℕ). IsBehind (columns_of c.args.schema.now) b c.args.value.now) empty c.requires.behind
+    subst (λ (b : List ℕ). IsBehind (columns_of c.args.schema.now) b c.args.value.now) empty c.requires
 
 pub returns-then-is_empty : goal.returns-then-is_empty
 returns-then-is_empty c =
-    let columns = columns_of c.args.schema.now in
     let empty : c.args.clustering.now ≡ [] = nil_from_length c.args.clustering.now (eqb-true (length c.args.clustering.now) 0 (sym c.is_empty.ensures ∙ c.if-is_empty.true)) in
     ok_so c.end_static.result _ _
-    (λ ends. line_ended columns c.args.partition.now c.args.clustering.now c.args.value.now c.args.out.now c.write_string.new.out c.end_static.new.out c.in_ok-write_string.ensures.ok
-    (subst (λ (b : List ℕ). EndsLine columns b c.args.value.now c.write_string.new.out c.end_static.new.out) (sym empty) ends))
+    (λ ends key is. subst (λ (b : List ℕ). EndsLine (columns_of c.args.schema.now) b c.args.value.now c.extend.new.self c.end_static.new.out) (sym empty) ends
+    c.args.out.now key c.args.text.now is c.in_ok-extend.ensures.ok)
     c.end_static.ensures
 
 pub returns-else-is_empty : goal.returns-else-is_empty
-returns-else-is_empty c =
-    ok_so c.end_row.result _ _
-    (line_ended (columns_of c.args.schema.now) c.args.partition.now c.args.clustering.now c.args.value.now c.args.out.now c.write_string.new.out c.end_row.new.out c.in_ok-write_string.ensures.ok)
-    c.end_row.ensures
+returns-else-is_empty c = ok_so c.end_row.result _ _ (λ ends key is. ends c.args.out.now key c.args.text.now is c.in_ok-extend.ensures.ok) c.end_row.ensures

@@ -9,8 +9,8 @@ use Rattle.data_file.specs.Reading.{BeginsHead, NoHead}
 use Rattle.key_types.specs.Columns.{columns_of}
 use Rattle.key_printing.specs.Texts.{IsTextOf}
 use Rattle.table_tool.specs.declared.walk.Walk.{Walk}
-use Rattle.table_tool.specs.Steps.{IsFixedBehind, NoFixedBehind, inside_of}
-use Rattle.table_tool.proofs.StepLemmas.{Moving, halts_end, halts_fixed, halts_head, is_outside, moves_head, prints_fixed, room_there, text_anew}
+use Rattle.table_tool.specs.Steps.{IsStaticPartBehind, NoStaticPartBehind, inside_of}
+use Rattle.table_tool.proofs.StepLemmas.{Moving, halts_end, halts_static_part, halts_head, is_outside, moves_head, prints_static_part, room_there, text_anew}
 use Rattle.table_tool.proofs.walk.Walk.enter.Goals as goal
 use Rattle.table_files.specs.Standing.{static_entries}
 
@@ -29,16 +29,16 @@ returns-in_default-clause-step c =
     (subst (λ (b : List ℕ). NoHead columns b) c.unread-bytes.ensures.bytes (c.head_in.ensures.none (search rules))) c.stop_at.ensures.met
     (ap (λ (w : Walk). w.stop) c.stop_at.ensures.walk ∙ ap (λ (at : ℕ). Some (damage_at at BadHead)) c.at-at.ensures)
 
-pub returns-in_default-fixed_behind-clause-step : goal.returns-in_default-fixed_behind-clause-step
-returns-in_default-fixed_behind-clause-step c =
+pub returns-in_default-static_part_behind-clause-step : goal.returns-in_default-static_part_behind-clause-step
+returns-in_default-static_part_behind-clause-step c =
     let columns = columns_of c.args.schema.now in
     let head = 2 + length c.in-Some.key.now in
     let begins : BeginsHead columns c.unread-bytes.result.now c.in-Some.key.now = search rules in
-    let no_part : NoFixedBehind columns (drop head c.unread-bytes.result.now) = c.fixed_behind.ensures.none (search rules) in
-    halts_fixed columns c.args.self.now c.stop_at-in_default-fixed_behind.new.self c.args.out.now c.in-Some.key.now c.stop_at-in_default-fixed_behind.result head c.requires.outside c.requires.full
+    let no_part : NoStaticPartBehind columns (drop head c.unread-bytes.result.now) = c.static_part_behind.ensures.none (search rules) in
+    halts_static_part columns c.args.self.now c.stop_at-in_default-static_part_behind.new.self c.args.out.now c.in-Some.key.now c.stop_at-in_default-static_part_behind.result head c.requires.outside c.requires.full
     (subst (λ (b : List ℕ). BeginsHead columns b c.in-Some.key.now) c.unread-bytes.ensures.bytes begins) (omega arith)
-    (subst (λ (b : List ℕ). NoFixedBehind columns (drop head b)) c.unread-bytes.ensures.bytes no_part) c.stop_at-in_default-fixed_behind.ensures.met
-    (ap (λ (w : Walk). w.stop) c.stop_at-in_default-fixed_behind.ensures.walk ∙ ap (λ (at : ℕ). Some (damage_at (at + head) BadRow)) c.at.ensures)
+    (subst (λ (b : List ℕ). NoStaticPartBehind columns (drop head b)) c.unread-bytes.ensures.bytes no_part) c.stop_at-in_default-static_part_behind.ensures.met
+    (ap (λ (w : Walk). w.stop) c.stop_at-in_default-static_part_behind.ensures.walk ∙ ap (λ (at : ℕ). Some (damage_at (at + head) BadRow)) c.at.ensures)
 
 pub returns-clause-step : goal.returns-clause-step
 returns-clause-step c =
@@ -46,21 +46,21 @@ returns-clause-step c =
     let walk = c.args.self.now in
     let key = c.in-Some.key.now in
     let head : ℕ = 2 + length key in
-    let fixed = option_copied c.in-Some-fixed_behind.fixed in
-    let count = c.in-Some-fixed_behind.length in
+    let static_part = option_copied c.in-Some-static_part_behind.static_part in
+    let count = c.in-Some-static_part_behind.length in
     let begins : BeginsHead columns c.unread-bytes.result.now key = search rules in
-    let part : IsFixedBehind columns (drop head c.unread-bytes.result.now) fixed count = search rules in
+    let part : IsStaticPartBehind columns (drop head c.unread-bytes.result.now) static_part count = search rules in
     let long : head ≡ length (head_bytes key) = omega arith in
-    let moves = moves_head columns walk.window c.pass.new.self (head + count) (inside_of walk) key fixed count
+    let moves = moves_head columns walk.window c.pass.new.self (head + count) (inside_of walk) key static_part count
     (room_there walk.window _ c.unread-bytes.ensures.bytes c.unread-bytes.ensures.inside) (is_outside walk c.requires.outside) c.pass.ensures (omega arith)
     (subst (λ (b : List ℕ). BeginsHead columns b key) c.unread-bytes.ensures.bytes begins)
-    (subst (λ (b : List ℕ). IsFixedBehind columns (drop (length (head_bytes key)) b) fixed count) c.unread-bytes.ensures.bytes
-    (subst (λ (n : ℕ). IsFixedBehind columns (drop n c.unread-bytes.result.now) fixed count) long part)) in
+    (subst (λ (b : List ℕ). IsStaticPartBehind columns (drop (length (head_bytes key)) b) static_part count) c.unread-bytes.ensures.bytes
+    (subst (λ (n : ℕ). IsStaticPartBehind columns (drop n c.unread-bytes.result.now) static_part count) long part)) in
     let same : c.extend.new.self ≡ key = c.in_ok-extend.ensures.ok ∙ ap (λ (l : List ℕ). l ++ key) c.truncate.ensures in
     let has = text_anew columns.partition key c.extend.new.self c.truncate-2.new.self c.write_string.new.out same c.truncate-2.ensures c.in_ok-write_string.ensures.ok in
-    prints_fixed columns walk (record { window = c.pass.new.self; key = c.extend.new.self; text = c.write_string.new.out; inside = true; stop = walk.stop }) c.args.out.now c.put_fixed.new.out fixed has
-    (c.in_ok-put_fixed.ensures c.extend.new.self (subst (IsTextOf columns.partition c.extend.new.self) (sym c.as_slice.ensures) has))
-    (subst (λ (k : List ℕ). Moving columns walk.window c.pass.new.self (inside_of walk) (Some k) (static_entries k fixed)) (sym same) moves)
+    prints_static_part columns walk (record { window = c.pass.new.self; key = c.extend.new.self; text = c.write_string.new.out; inside = true; stop = walk.stop }) c.args.out.now c.put_static_part.new.out static_part has
+    (c.in_ok-put_static_part.ensures c.extend.new.self (subst (IsTextOf columns.partition c.extend.new.self) (sym c.as_slice.ensures) has))
+    (subst (λ (k : List ℕ). Moving columns walk.window c.pass.new.self (inside_of walk) (Some k) (static_entries k static_part)) (sym same) moves)
 
 pub returns-clause-key : goal.returns-clause-key
 returns-clause-key c =

@@ -1,6 +1,0 @@
-use Rattle.std.proofs.Common.{◌≡◌, Err, ap}
-use Rattle.data_file.specs.declared.parse.ParseRow.TheVariants.{Bad}
-use Rattle.data_file.proofs.fixed.parse_fixed.Goals as goal
-
-pub returns-in-Err-clause-bad : goal.returns-in-Err-clause-bad
-returns-in-Err-clause-bad c = λ bad. let same : c.in-Err.e ≡ Bad = cc in c.in-Err.ensures.bad (ap Err same)
