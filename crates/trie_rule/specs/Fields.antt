@@ -7,7 +7,7 @@ use Rattle.trie_image.specs.declared.StoreKind.{StoreKind}
 use Rattle.trie_image.specs.declared.StoreKind.TheVariants.{Prepare, Publish, Finish}
 use Rattle.trie_image.specs.declared.WordStore.{WordStore}
 use Rattle.trie_image.specs.Puts.{IsKey}
-use Rattle.trie_image.specs.Place.{start_place, next_word_of}
+use Rattle.trie_image.specs.Place.{next_word_of}
 use Rattle.trie_machine.specs.declared.Begun.{Begun}
 use Rattle.trie_machine.specs.declared.Find.{Find}
 use Rattle.trie_machine.specs.State.{IsMachine}
@@ -15,7 +15,6 @@ use Rattle.trie_rule.specs.declared.views.WriteView.{WriteView}
 use Rattle.trie_rule.specs.declared.views.ReadView.{ReadView}
 use Rattle.trie_rule.specs.declared.views.View.{View}
 use Rattle.trie_rule.specs.declared.views.View.TheVariants.{Writes, Reads}
-use Rattle.trie_rule.specs.declared.seats.Walk.{Walk}
 use Rattle.trie_rule.specs.Rule.{state_of, write_view_of, read_view_of}
 use Rattle.trie_rule.specs.Kinds.{HasValuesBelow}
 use Rattle.trie_rule.specs.Seats.{WriterAt, ReaderAt, IsNext}
@@ -25,10 +24,10 @@ abbrev pub done_of : Option Begun → ℕ
 done_of None = 0
 done_of (Some b) = length b.done
 
--- what a seat holds of a find
-abbrev pub IsWalk : Option Walk → Option Find → Type 0
-IsWalk None find = find ≡ None
-IsWalk (Some w) find = (key : List ℕ) × (find ≡ Some record { key = key; base = w.base; place = w.place })
+-- a find under way began with this front
+abbrev pub HasBase : ℕ → Option Find → Type 0
+HasBase front None = Unit {0}
+HasBase front (Some f) = f.base ≡ front
 
 -- the key of a find is within its limits, and the word that it needs is below this number
 abbrev pub IsWithin : ℕ → Option Find → Type 0
@@ -48,11 +47,12 @@ module _ {S : Type 0} where
       (s.me ≡ (Writes w, [])) × (s.table_id.words ≡ 4 * w.cells)
       × (used ≡ w.used) × (done ≡ done_of w.begun) × IsMachine (state_of w [])
 
-  -- a reader's seat holds its front and its walk; what it needs next, and the values that it has seen, lie in the table
-  abbrev pub HoldsReader : Seat S View → ℕ → Option Walk → Type 0
-  HoldsReader s front walk = let r : ReadView = read_view_of s.me.0 in
+  -- a reader's seat holds its front, from which its find began; the word that the find needs next, and the values that the
+  -- reader has seen, lie in the table
+  abbrev pub HoldsReader : Seat S View → ℕ → Type 0
+  HoldsReader s front = let r : ReadView = read_view_of s.me.0 in
       (s.me ≡ (Reads r, [])) × (s.table_id.words ≡ 4 * r.cells)
-      × (front ≡ r.reader.front) × IsWalk walk r.reader.find × IsWithin (4 * r.cells) r.reader.find
+      × (front ≡ r.reader.front) × HasBase front r.reader.find × IsWithin (4 * r.cells) r.reader.find
       × (front ≤ length r.seen) × HasValuesBelow (4 * r.cells) r.seen
 
 -- the next store of the put is of this word and value
@@ -68,13 +68,8 @@ Counts Prepare used done used' done' = (used' ≡ used) × (done' ≡ done + 1)
 Counts Publish used done used' done' = (used' ≡ used + done / 4) × (done' ≡ done + 1)
 Counts Finish used done used' done' = (used' ≡ used) × (done' ≡ 0)
 
--- what a seat holds of a find that begins
-abbrev pub walk_of : ℕ → Option (List ℕ) → Option Walk
-walk_of base None = None
-walk_of base (Some key) = Some record { base = base; place = start_place }
-
--- the front and the walk that a seat holds after a load of the walk's word
-abbrev pub Settles : Walk → ℕ → Advance → ℕ → Option Walk → Type 0
-Settles w front (On place) front' w' = (front' ≡ front) × (w' ≡ Some record { base = w.base; place = place })
-Settles w front (Found rec) front' w' = (front' ≡ max w.base rec.number) × (w' ≡ None)
-Settles w front Absent front' w' = (front' ≡ w.base) × (w' ≡ None)
+-- the front after a load of a find that has this outcome
+abbrev pub front_by : ℕ → Advance → ℕ
+front_by front (On place) = front
+front_by front (Found rec) = max front rec.number
+front_by front Absent = front

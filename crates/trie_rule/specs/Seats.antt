@@ -4,13 +4,15 @@ use Rattle.std.specs.Borrow.{Bor}
 pub use Rattle.atomic_table.specs.Seated.{TableId}
 use Rattle.trie_image.specs.declared.Put.{Put}
 use Rattle.trie_image.specs.declared.WordStore.{WordStore}
+use Rattle.trie_image.specs.declared.Place.{Place}
+use Rattle.trie_image.specs.declared.Advance.{Advance}
 use Rattle.trie_image.specs.Place.{outcome_of}
 use Rattle.trie_machine.specs.declared.Find.{Find}
 use Rattle.trie_machine.specs.Events.{reader_after, LoadTells}
 use Rattle.trie_rule.specs.declared.views.WriteView.{WriteView}
 use Rattle.trie_rule.specs.declared.views.ReadView.{ReadView}
 use Rattle.trie_rule.specs.Rule.{IsStartOf}
-use Rattle.trie_rule.specs.Kinds.{begun_or, MayPut, read_view_with, reader_with, IsValueWord}
+use Rattle.trie_rule.specs.Kinds.{begun_or, MayPut, read_view_with, reader_with}
 
 -- the cells of a shard: which table, and how many cells
 pub record CellsAt : Type 0 where
@@ -73,8 +75,11 @@ pub record MovesFind (f : Find) (r : ReadView) (loaded : ℕ) (q : ReadView) : T
   pub most : q.reader.front ≤ length q.seen
   pub tells : LoadTells q.seen (4 * r.cells) f (outcome_of f.place loaded f.key)
 
--- what the load of a word gives: without a find the seat stays, and a word of the value of a put that was seen has its
--- bytes; with one, the find moves
-abbrev pub LoadGives : Option Find → ReadView → ℕ → ℕ → ReadView → Type 0
-LoadGives None r word loaded q = (q ≡ r) × IsValueWord r.seen word loaded
-LoadGives (Some f) r word loaded q = MovesFind f r loaded q
+-- a find of this key is under way, and stands at this place
+abbrev pub IsFindAt : Option Find → List ℕ → Place → Type 0
+IsFindAt find key place = (f : Find) × (find ≡ Some f) × (f.key ≡ key) × (f.place ≡ place)
+
+-- the find moved by the load of a word that leads to this outcome
+abbrev pub FindMoves : Option Find → ReadView → Advance → ReadView → Type 0
+FindMoves find r outcome q = (f : Find) → find ≡ Some f
+    → (loaded : ℕ) × (outcome ≡ outcome_of f.place loaded f.key) × MovesFind f r loaded q

@@ -11,7 +11,6 @@ mod note;
 mod plays;
 mod seats;
 mod views;
-mod walks;
 mod words;
 
 pub use cells::ShardCells;

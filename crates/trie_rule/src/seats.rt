@@ -6,7 +6,6 @@ ghost use Rattle.trie_rule.specs.Kinds.{IsStanding, HasValuesBelow};
 use crate::views::View;
 use atomic_table::Seat;
 use std::marker::Model;
-use trie_image::Place;
 
 /// The writer's seat, of which each table has one. Contracts see it as what it knows, and which table it is of.
 ///
@@ -47,21 +46,13 @@ impl WriteSeat {
     }
 }
 
-/// Where a find under way stands, and the number of puts that its answer counts at least. Its key is its caller's.
-#[derive(Clone, Copy)]
-pub(crate) struct Walk {
-    pub(crate) base: u64,
-    pub(crate) place: Place,
-}
-
 /// A reader's seat, of which a table has any number. Contracts see it as what it knows, and which table it is of.
 ///
-/// It holds its reader's front, and where its find stands.
+/// It holds its reader's front. Where a find under way stands is what it knows, and its callers hold it.
 #[derive(Drop)]
 pub struct ReadSeat {
     pub(crate) seat: Seat<(), View>,
     pub(crate) front: u64,
-    pub(crate) walk: Option<Walk>,
 }
 
 impl Model for ReadSeat {
@@ -72,7 +63,7 @@ impl Model for ReadSeat {
 
     ghost view = { λ s. reader_at s.seat };
 
-    ghost invariant = { λ s. HoldsReader s.seat s.front s.walk };
+    ghost invariant = { λ s. HoldsReader s.seat s.front };
 }
 
 impl ReadSeat {

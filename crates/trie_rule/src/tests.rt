@@ -27,7 +27,7 @@ fn read_and_close<L: Ledger>(rt: &impl Abort, cells: ShardCells, seat: WriteSeat
     assert_eq!(rt; seat.used(), 1);
     assert_eq!(rt; cells.load_own(&mut seat, 4095), 0);
     assert_eq!(rt; cells.load_front(&mut reader, None, &mut steps), 0);
-    assert_eq!(rt; cells.load(&mut reader, 4095, None, &mut steps), 0);
+    assert_eq!(rt; cells.load(&mut reader, 4095, &mut steps), 0);
     cells.join(note.into_seat(), &mut reader);
     assert_eq!(rt; cells.load_front(&mut reader, None, &mut steps), 0);
     let words = cells.close(seat);

@@ -1,22 +1,22 @@
 //! The readers' steps: loads, and two seats that become one.
 
 ghost use Rattle.std.specs.Prelude.{◌≡◌, ◌+◌, ◌*◌, ◌<◌, ◌≤◌, [], max, Some, None};
-ghost use Rattle.trie_image.specs.Place.{next_word_of};
 ghost use Rattle.trie_machine.specs.Events.{resting};
 ghost use Rattle.trie_rule.specs.declared.views.View.TheVariants.{Reads};
 ghost use Rattle.trie_rule.specs.Rule.{IsStartOf, read_view_of};
-ghost use Rattle.trie_rule.specs.Kinds.{MayFind, HasValuesBelow};
-ghost use Rattle.trie_rule.specs.Seats.{ReadsFrom, key_asked, RaisesFront, LoadGives};
+ghost use Rattle.trie_rule.specs.Kinds.{MayFind, HasValuesBelow, IsValueWord};
+ghost use Rattle.trie_rule.specs.Seats.{ReadsFrom, key_asked, RaisesFront, IsFindAt, FindMoves};
 
 use crate::cells::ShardCells;
 use crate::plays::{Asks, FrontLoads, Shared, WordLoads};
 use crate::seats::ReadSeat;
 use crate::views::View;
-use crate::walks::{begun, settle};
 use atomic_table::Seat;
 use outside::Steps;
 use std::marker::Brand;
 use std::sync::ledger::Ledger;
+use trie_image::walk::{advance, next_word};
+use trie_image::{Advance, Place};
 
 impl ShardCells {
     /// The step of a load of word 0, with the key that `A` names.
@@ -54,38 +54,54 @@ impl ShardCells {
         let word = self.front_as::<Brand>(&mut seat.seat, key);
         let base = seat.front.max(word);
         seat.front = base;
-        seat.walk = begun(key, base);
         base
     }
 
-    /// Loads the word that a find under way needs, and moves it; or any other word while none is under way. It is one step.
-    pub fn load<L: Ledger>(
-        &self,
-        seat: &mut ReadSeat,
-        word: u32,
-        key: Option<&[u8]>,
-        steps: &mut Steps<L>,
-    ) -> u64
+    /// Loads a word while no find is under way. It is one step.
+    pub fn load<L: Ledger>(&self, seat: &mut ReadSeat, word: u32, steps: &mut Steps<L>) -> u64
         requires own { ReadsFrom self.now seat.old }
         requires inside { word < 4 * self.now.cells }
-        requires place { (f : _) → seat.old.knows.reader.find ≡ Some f
-            → (word ≡ next_word_of f.place) × (key_asked key ≡ Some f.key) }
+        requires idle { seat.old.knows.reader.find ≡ None }
         ensures own { ReadsFrom self.now seat.new }
-        ensures gives { LoadGives seat.old.knows.reader.find seat.old.knows word result seat.new.knows }
+        ensures same { seat.new.knows ≡ seat.old.knows }
+        ensures value { IsValueWord seat.old.knows.seen word result }
         ensures step { steps.new ≡ steps.old + 1 }
     {
         steps.tick();
-        let found = self
-            .table
+        self.table
             .shared
-            .load::<WordLoads>(&mut seat.seat, word as usize);
-        let Some(walk) = seat.walk else {
-            return found;
-        };
-        let (front, walk) = settle(walk, seat.front, key, found);
-        seat.front = front;
-        seat.walk = walk;
-        found
+            .load::<WordLoads>(&mut seat.seat, word as usize)
+    }
+
+    /// Loads the word that the find under way needs at its place, and moves the find: what the word leads to. It is one step.
+    #[inline(always)]
+    pub fn load_next<L: Ledger>(
+        &self,
+        seat: &mut ReadSeat,
+        place: Place,
+        key: &[u8],
+        steps: &mut Steps<L>,
+    ) -> Advance
+        requires own { ReadsFrom self.now seat.old }
+        requires find { IsFindAt seat.old.knows.reader.find key.now place }
+        ensures own { ReadsFrom self.now seat.new }
+        ensures moves { FindMoves seat.old.knows.reader.find seat.old.knows result seat.new.knows }
+        ensures step { steps.new ≡ steps.old + 1 }
+    {
+        steps.tick();
+        // The number of cells bounds the word that the place needs.
+        let _ = self.cells();
+        let front = seat.front;
+        let word = next_word(&place) as usize;
+        let found = self.table.shared.load::<WordLoads>(&mut seat.seat, word);
+        match advance(&place, found, key) {
+            Advance::On(next) => Advance::On(next),
+            Advance::Found(rec) => {
+                seat.front = front.max(rec.number as u64);
+                Advance::Found(rec)
+            }
+            Advance::Absent => Advance::Absent,
+        }
     }
 
     /// The seat `into` comes to know what both did, with the greater front; the other ends.
@@ -97,11 +113,7 @@ impl ShardCells {
         ensures seen { IsStartOf into.old.knows.seen into.new.knows.seen }
         ensures told { IsStartOf from.knows.seen into.new.knows.seen }
     {
-        let ReadSeat {
-            seat,
-            front,
-            walk: _,
-        } = from;
+        let ReadSeat { seat, front } = from;
         let table = &self.table.shared;
         table.join_seat::<Shared>(&mut into.seat, seat);
         // The rule tells only at a step that loads: this one changes nothing, and tells that both lists start what is

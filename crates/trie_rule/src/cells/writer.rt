@@ -87,10 +87,6 @@ impl ShardCells {
         let table = &self.table.shared;
         let front = table.load::<Looks>(&mut seat.seat, 0);
         let seat = table.split_seat::<Shared>(&mut seat.seat);
-        ReadSeat {
-            seat,
-            front,
-            walk: None,
-        }
+        ReadSeat { seat, front }
     }
 }

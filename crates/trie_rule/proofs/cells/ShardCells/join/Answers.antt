@@ -18,6 +18,6 @@ pub invariant_of-into : goal.invariant_of-into
 invariant_of-into c =
     let a = c.into.invariant in let b = c.from.invariant in let own = c.requires.own in let j = c.join_seat.ensures in
     let cells = ap (λ x. x.knows.cells) c.from.view_is ∙ own.0.1 ∙ sym own.1.1 ∙ ap (λ x. x.knows.cells) (sym c.into.view_is) in
-    subst (λ front. HoldsReader c.load-into-inside.new.seat front c.into.inside.walk) (sym c.max-into-inside.ensures)
-    (joined c.self.inside.table.shared.table_id.slots c.load-into-inside.result c.into.inside.seat c.from.inside.seat c.join_seat.new.seat c.load-into-inside.new.seat c.into.inside.front c.from.inside.front c.into.inside.walk c.from.inside.walk a b
+    subst (λ front. HoldsReader c.load-into-inside.new.seat front) (sym c.max-into-inside.ensures)
+    (joined c.self.inside.table.shared.table_id.slots c.load-into-inside.result c.into.inside.seat c.from.inside.seat c.join_seat.new.seat c.load-into-inside.new.seat c.into.inside.front c.from.inside.front a b
     (ap (λ x. x.knows.reader.find) c.into.view_is ∙ c.requires.idle.1) cells j.0 j.2 c.load-into-inside.ensures.0 c.load-into-inside.ensures.2)
