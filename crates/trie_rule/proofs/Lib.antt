@@ -1,0 +1,4 @@
+pub mod Keeps
+pub mod Watches
+pub mod SeatFields
+pub mod Ends

@@ -1,0 +1,4 @@
+pub mod Rule
+pub mod Kinds
+pub mod Seats
+pub mod Fields
