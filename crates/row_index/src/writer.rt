@@ -1,5 +1,5 @@
 //! The writer of a row index: the flush gives it the blocks of each partition of two or more, in order.
-ghost use Rattle.std.specs.Prelude.{◌≡◌, ◌≤◌, ◌<◌, ◌^◌, [], length, IfOk, OnOk, Err};
+ghost use Rattle.std.specs.Prelude.{◌≡◌, ◌≤◌, ◌<◌, ◌^◌, [], length, IfOk, OnErr, OnOk, Err};
 ghost use Rattle.outside.specs.Causes.{Rose};
 ghost use Rattle.outside.specs.Files.{Appends};
 ghost use Rattle.std.specs.declared.cmp.Ordering.TheVariants.{Less};
@@ -99,14 +99,14 @@ impl RowWriter {
 
     /// Ends the file, behind a partition that was ended or of none. It makes the file also where nothing was appended.
     ///
-    /// Errors: `StoreFault` where the store failed, `NoMemory`.
+    /// Errors: `StoreFault` where the store failed. It takes no memory.
     pub fn finish<K: Store>(self, store: &mut K) -> Result<(), PackError>
         requires { HasNoBlocks self }
         ensures written { (w : RowIndexing) → WritesRowIndex self w
             → Appends (K.files store.old) (K.files store.new) w.file result [] }
         ensures reads { K.reads store.new ≡ K.reads store.old }
         ensures later { K.faults store.old ≤ K.faults store.new }
-        ensures fault { result ≡ Err PackError.StoreFault → Rose (K.faults store.old) (K.faults store.new) }
+        ensures fault { OnErr result (Rose (K.faults store.old) (K.faults store.new)) }
     {
         store.append(self.file, &[])?;
         Ok(())
