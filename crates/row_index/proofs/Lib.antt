@@ -1,0 +1,4 @@
+pub mod Growing
+pub mod Rows
+pub mod Separators
+pub mod Written

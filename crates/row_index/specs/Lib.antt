@@ -1,0 +1,4 @@
+pub mod Entries
+pub mod File
+pub mod Laws
+pub mod Writing
