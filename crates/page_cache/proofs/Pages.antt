@@ -133,7 +133,7 @@ promote_by key es (Some e) files h l some honest =
       held = first_held key e (remove_entry (same_page key) es) f.same;
     }
 
-pub after_promote : (key : PageKey) (old es new : Held) (files : Option Files) → es ≡ old → new ≡ promoted (same_page key) es → length es ≤ 64 → is_some (lookup (same_page key) es) ≡ true → Honest files old → After key old new files
+after_promote : (key : PageKey) (old es new : Held) (files : Option Files) → es ≡ old → new ≡ promoted (same_page key) es → length es ≤ 64 → is_some (lookup (same_page key) es) ≡ true → Honest files old → After key old new files
 after_promote key old es new files e n l some honest =
     subst (λ (x : Held). After key old x files) (sym n)
     (subst (λ (o : Held). After key o (promoted (same_page key) es) files) e (promote_by key es (lookup_entry (same_page key) es) files refl l some (subst (Honest files) (sym e) honest)))
@@ -183,6 +183,11 @@ after_put : (key : PageKey) (v : List ℕ) (old es new : Held) (cap : ℕ) (file
 after_put key v old es new cap files e n c none honest page =
     subst (λ (x : Held). After key old x files) (sym (n ∙ put_is key v es cap c none))
     (subst (λ (o : Held). After key o ((key, v) ∷ take 63 es) files) e (put_new key v es files none (subst (Honest files) (sym e) honest) page))
+
+-- a page that is held was looked for
+pub after_held : (key : PageKey) (old es : Held) (looked : LruCache PageKey (List ℕ)) (cap : ℕ) (files : Option Files) → es ≡ old → length es ≤ cap → cap ≡ 64 → looked ≡ lru_cache (promoted (same_page key) es) cap
+    → is_some (lookup (same_page key) es) ≡ true → Honest files old → After key old looked.entries files
+after_held key old es looked cap files e few c l some honest = after_promote key old es looked.entries files e (ap (λ (x : LruCache PageKey (List ℕ)). x.entries) l) (omega (arith, few, c)) some honest
 
 -- a page that is not held was looked for, and then put
 pub after_missing : (key : PageKey) (v : List ℕ) (old es : Held) (looked new : LruCache PageKey (List ℕ)) (cap : ℕ) (files : Option Files) → es ≡ old → is_some (lookup (same_page key) es) ≡ false → looked ≡ lru_cache (promoted (same_page key) es) cap → cap ≡ 64

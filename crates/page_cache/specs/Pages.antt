@@ -38,8 +38,10 @@ Honest (Some files) ps = AreOf files ps
 abbrev pub page_in : FileId → ℕ → Held → Option (List ℕ)
 page_in file number ps = lookup (same_page (page_key file number)) ps
 
--- What a call for a page does to the pages that are held. At Ok the page is the last used; after an Err they are as before.
-pub record Uses {T E : Type 0} (files : Option Files) (file : FileId) (number : ℕ) (old : Held) (result : Result T E) (new : Held) : Type 0 where
+-- What a call for a page does to the pages that are held. At Ok the page is the last used; after an Err they are as
+-- before.
+pub record Uses {T E : Type 0} (files : Option Files) (file : FileId) (number : ℕ)
+    (old : Held) (result : Result T E) (new : Held) : Type 0 where
   pub honest : Honest files new
   pub ok : OnOk result (keys_of new ≡ used_last (page_key file number) (keys_of old))
   pub err : OnErr result (new ≡ old)

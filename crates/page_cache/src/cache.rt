@@ -1,5 +1,6 @@
-//! The cache of pages, after the chunk cache that Cassandra reads its index files through. The readers of indexes call it, and hand
-//! in the store each time. It holds at most 64 pages, and what it holds of a file is that page of it as long as nobody changes the file.
+//! The cache of pages, after the chunk cache that Cassandra reads its index files through. The readers of indexes
+//! call it, and hand in the store each time. It holds at most 64 pages, and what it holds of a file is that page of
+//! it as long as nobody changes the file.
 ghost use Rattle.std.specs.Prelude.{◌≡◌, ◌<◌, ◌≤◌, ◌+◌, ◌^◌, [], length, OnOk, OnErr, IfOk, IfSome, IsSome, Some, Err};
 ghost use Rattle.std.specs.Borrow.{sem};
 ghost use Rattle.outside.specs.Causes.{Rose};
@@ -106,9 +107,9 @@ impl PageCache {
         Ok(())
     }
 
-    /// The bytes of a page of a file: 4,096 of them, fewer or none where the file ends before. The store is read once at most, and
-    /// not at all where the page is held. Afterwards the page is the last used, and where 64 others were held the one that wasn't used for
-    /// the longest time is gone; after an error the pages are as before.
+    /// The bytes of a page of a file: 4,096 of them, fewer or none where the file ends before. The store is read once
+    /// at most, and not at all where the page is held. Afterwards the page is the last used; where 64 others were held
+    /// and not it, the one that wasn't used for the longest time is gone. After an error the pages are as before.
     pub fn page<K: Store>(
         &mut self,
         store: &mut K,

@@ -1,4 +1,5 @@
-//! The name of a page. The cache finds its pages by it; only the page's number is hashed, since a cache serves few files.
+//! The name of a page. The cache finds its pages by it; only the page's number is hashed, since a cache serves few
+//! files.
 use outside::FileId;
 use std::hash::{Hash, Hasher};
 

@@ -5,24 +5,22 @@ use Rattle.lru.specs.LruCache.{LruCache}
 use Rattle.page_cache.specs.declared.key.PageKey.{PageKey}
 use Rattle.page_cache.specs.Key.{same_page}
 use Rattle.page_cache.specs.Pages.{page_key}
-use Rattle.page_cache.proofs.Pages.{After, after_promote, after_missing, not_promoted, unchanged}
+use Rattle.page_cache.proofs.Pages.{after_held, after_missing, not_promoted, unchanged}
 use Rattle.page_cache.proofs.cache.PageCache.load.Goals as goal
-use Rattle.page_cache.proofs.cache.PageCache.load.Given.{Over}
-use Rattle.page_cache.proofs.cache.PageCache.load.Goals.{Then-promote, Joined-branch-3}
-
-promotes : (g : Over) (c : Then-promote g) → After (page_key c.args.file c.args.number) c.args.self.now c.promote.new.self.entries (g.K.Store.files c.args.store.now)
-promotes g c =
-    let es = c.self.inside.pages.entries in
-    let cap : c.self.inside.pages.cap ≡ 64 = c.self.invariant in
-    let few : length es ≤ 64 = omega (arith, c.len-count.ensures.valid.1, cap) in
-    after_promote (page_key c.args.file c.args.number) c.args.self.now es c.promote.new.self.entries (g.K.Store.files c.args.store.now) c.self.view_is
-    (ap (λ (l : LruCache PageKey (List ℕ)). l.entries) c.promote.ensures.entries) few (sym c.promote.ensures.value ∙ c.if-promote.true) c.requires.honest
 
 pub returns-then-promote-clause-held : goal.returns-then-promote-clause-held
-returns-then-promote-clause-held g c = (promotes g c).held
+returns-then-promote-clause-held g c =
+    let a =
+    after_held (page_key c.args.file c.args.number) c.args.self.now c.self.inside.pages.entries c.promote.new.self c.self.inside.pages.cap (g.K.Store.files c.args.store.now) c.self.view_is c.len-count.ensures.valid.1 c.self.invariant
+    c.promote.ensures.entries (sym c.promote.ensures.value ∙ c.if-promote.true) c.requires.honest in
+    a.held
 
 pub returns-then-promote-clause-uses : goal.returns-then-promote-clause-uses
-returns-then-promote-clause-uses g c = let a = promotes g c in record { honest = a.honest; ok = a.keys; err = tt }
+returns-then-promote-clause-uses g c =
+    let a =
+    after_held (page_key c.args.file c.args.number) c.args.self.now c.self.inside.pages.entries c.promote.new.self c.self.inside.pages.cap (g.K.Store.files c.args.store.now) c.self.view_is c.len-count.ensures.valid.1 c.self.invariant
+    c.promote.ensures.entries (sym c.promote.ensures.value ∙ c.if-promote.true) c.requires.honest in
+    record { honest = a.honest; ok = a.keys; err = tt }
 
 pub returns-in_err-bytes-clause-uses : goal.returns-in_err-bytes-clause-uses
 returns-in_err-bytes-clause-uses g c =
