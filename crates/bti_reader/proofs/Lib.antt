@@ -1,0 +1,10 @@
+pub mod Turns
+pub mod Split
+pub mod Lists
+pub mod Sound
+pub mod Finds
+pub mod Asking
+pub mod Ascending
+pub mod Walking
+pub mod Whole
+pub mod Ways

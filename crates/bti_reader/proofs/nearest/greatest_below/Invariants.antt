@@ -1,0 +1,26 @@
+use Rattle.std.proofs.Common.{◌≡◌, ◌+◌, ◌≤◌, length, IfSome}
+use Rattle.outside.specs.Files.{bytes_of}
+use Rattle.page_cache.specs.Pages.{Honest}
+use Rattle.bti_reader.specs.Searches.{last_path, below_from}
+use Rattle.bti_reader.specs.Steps.{answer_of, spare_answer, SpareFits}
+use Rattle.bti_reader.proofs.Asking.{or_then}
+use Rattle.bti_reader.proofs.nearest.greatest_below.Given as goal
+
+abbrev pub invariant-nodes : goal.invariant-nodes
+invariant-nodes g l =
+    let files = g.K.Store.files in
+    record {
+      honest : Honest (files l.store) l.cache;
+      same : files l.store ≡ files l.fn.store;
+      search : IfSome (files l.fn.store) (λ m.
+          or_then (answer_of l.file.part l.passed (below_from l.itself (bytes_of m l.file) l.position l.rest)) (spare_answer l.file.part (last_path (bytes_of m l.file)) l.spare)
+          ≡ answer_of l.file.part 0 (below_from l.itself (bytes_of m l.file) l.root l.key));
+      taken : l.passed + length l.rest ≡ length l.key;
+      room : l.passed + l.position ≤ l.root;
+      fits : SpareFits l.root l.spare;
+      reads : g.K.Store.reads l.store ≤ g.K.Store.reads l.fn.store + l.passed;
+      later : g.K.Store.faults l.fn.store ≤ g.K.Store.faults l.store;
+    }
+
+abbrev pub decreases-nodes : goal.decreases-nodes
+decreases-nodes g l = length l.rest
