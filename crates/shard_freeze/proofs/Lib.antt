@@ -1,0 +1,14 @@
+pub mod Entries
+pub mod Puts
+pub mod Lists
+pub mod Skipped
+pub mod Nodes
+pub mod Left
+pub mod Levels
+pub mod Moves
+pub mod Roots
+pub mod Same
+pub mod Values
+pub mod Sought
+pub mod Seeks
+pub mod Gives
