@@ -4,7 +4,7 @@ use Rattle.outside.specs.Pages.{page_of}
 use Rattle.bti_nodes.specs.declared.node.Child.{Child}
 use Rattle.bti_nodes.specs.declared.node.NodeError.{NodeError}
 use Rattle.bti_nodes.specs.Grammar.{Node, node_at, Climbs, AllBack, IsBack}
-use Rattle.bti_nodes.specs.Children.{or_else, any, least_child, greatest_child, IsFull}
+use Rattle.bti_nodes.specs.Children.{child_or, any, least_child, greatest_child, HasPayloadOrChild}
 use Rattle.bti_nodes.specs.Trie.{Path, Paths, Wrong, node_in, or_wrong, own, both, of_places, of_node}
 use Rattle.bti_nodes.proofs.Climbing.{node_climbs}
 use Rattle.bti_nodes.proofs.Full.{node_full}
@@ -17,7 +17,7 @@ pub record Sound (file : List ℕ) (position : ℕ) (n : Node) : Type 0 where
   pub is : node_in file position ≡ Ok n
   pub climbs : Climbs 0 n.places
   pub back : AllBack position n.places
-  pub full : IsFull n.payload n.places
+  pub full : HasPayloadOrChild n.payload n.places
 
 node_ok : (r : Result Node NodeError) (position : ℕ) (n : Node) → or_wrong position r ≡ Ok n → r ≡ Ok n
 node_ok (Err e) position n h = cc
@@ -38,18 +38,18 @@ deeper_none b (Ok (Some p)) h = cc
 abbrev Goes : ℕ → (ℕ → Answer) → Type 0
 Goes position go = (d : ℕ) → 0 < d → d ≤ position → go (position - d) ≢ Ok None
 
-first_there : (payload : List ℕ) (places : List (Option Child)) (position : ℕ) (go : ℕ → Answer) → IsFull payload places → AllBack position places → Goes position go
+first_there : (payload : List ℕ) (places : List (Option Child)) (position : ℕ) (go : ℕ → Answer) → HasPayloadOrChild payload places → AllBack position places → Goes position go
     → own_or position payload (in_child (least_child places) position go (Ok None)) ≢ Ok None
 first_there (x ∷ xs) places position go full back goes = λ h. cc
 first_there [] [] position go full back goes = absurd (omega arith)
 first_there [] (None ∷ cs) position go full back goes = absurd full
 first_there [] (Some c ∷ cs) position go full back goes = λ h. goes c.distance back.0.0 back.0.1 (deeper_none c.byte (go (position - c.distance)) h)
 
-in_some : (o : Option Child) (c : Child) (position : ℕ) (go : ℕ → Answer) (other : Answer) → IsBack position o → IsBack position (Some c) → Goes position go → in_child (or_else o (Some c)) position go other ≢ Ok None
+in_some : (o : Option Child) (c : Child) (position : ℕ) (go : ℕ → Answer) (other : Answer) → IsBack position o → IsBack position (Some c) → Goes position go → in_child (child_or o (Some c)) position go other ≢ Ok None
 in_some None c position go other k back goes = λ h. goes c.distance back.0 back.1 (deeper_none c.byte (go (position - c.distance)) h)
 in_some (Some d) c position go other back k goes = λ h. goes d.distance back.0 back.1 (deeper_none d.byte (go (position - d.distance)) h)
 
-last_there : (payload : List ℕ) (places : List (Option Child)) (position : ℕ) (go : ℕ → Answer) → IsFull payload places → AllBack position places → Goes position go
+last_there : (payload : List ℕ) (places : List (Option Child)) (position : ℕ) (go : ℕ → Answer) → HasPayloadOrChild payload places → AllBack position places → Goes position go
     → in_child (greatest_child places) position go (own_or position payload (Ok None)) ≢ Ok None
 last_there (x ∷ xs) [] position go full back goes = λ h. cc
 last_there [] [] position go full back goes = absurd (omega arith)

@@ -6,7 +6,7 @@ use Rattle.std.specs.Prelude.{if◌then◌else◌, ◌==◌, nat_lt}
 use Rattle.std.specs.List.{AllByRecursion}
 use Rattle.bti_nodes.specs.declared.node.Child.{Child}
 use Rattle.bti_nodes.specs.Grammar.{child_under, Climbs}
-use Rattle.bti_nodes.specs.Children.{or_else, child_below, child_above, least_child, greatest_child}
+use Rattle.bti_nodes.specs.Children.{child_or, child_below, child_above, least_child, greatest_child}
 use Rattle.bti_nodes.specs.Trie.{Path, Paths, longer, under, both, of_places}
 
 abbrev pub Go : Type 0
@@ -86,7 +86,7 @@ refuse : (t : Bool) (c d : Option Child) → t ≡ false → (if t then c else d
 refuse true c d h = cc
 refuse false c d h = refl
 
-or_none : (c : Option Child) → or_else c None ≡ c
+or_none : (c : Option Child) → child_or c None ≡ c
 or_none None = refl
 or_none (Some c) = refl
 
@@ -96,17 +96,17 @@ under_is b x cs h = choose (x.byte == b) (Some x) (child_under b cs) (grind (ari
 pub under_not : (b : ℕ) (x : Child) (cs : List (Option Child)) → x.byte ≢ b → child_under b (Some x ∷ cs) ≡ child_under b cs
 under_not b x cs h = refuse (x.byte == b) (Some x) (child_under b cs) (grind (arith, nat_tests))
 
-below_less : (b : ℕ) (x : Child) (cs : List (Option Child)) → x.byte < b → child_below b (Some x ∷ cs) ≡ or_else (child_below b cs) (Some x)
-below_less b x cs h = ap (or_else (child_below b cs)) (choose (nat_lt x.byte b) (Some x) None (grind (arith, nat_tests)))
+below_less : (b : ℕ) (x : Child) (cs : List (Option Child)) → x.byte < b → child_below b (Some x ∷ cs) ≡ child_or (child_below b cs) (Some x)
+below_less b x cs h = ap (child_or (child_below b cs)) (choose (nat_lt x.byte b) (Some x) None (grind (arith, nat_tests)))
 
 below_not : (b : ℕ) (x : Child) (cs : List (Option Child)) → b ≤ x.byte → child_below b (Some x ∷ cs) ≡ child_below b cs
-below_not b x cs h = ap (or_else (child_below b cs)) (refuse (nat_lt x.byte b) (Some x) None (grind (arith, nat_tests))) ∙ or_none (child_below b cs)
+below_not b x cs h = ap (child_or (child_below b cs)) (refuse (nat_lt x.byte b) (Some x) None (grind (arith, nat_tests))) ∙ or_none (child_below b cs)
 
 pub above_more : (b : ℕ) (x : Child) (cs : List (Option Child)) → b < x.byte → child_above b (Some x ∷ cs) ≡ Some x
-above_more b x cs h = ap (λ c. or_else c (child_above b cs)) (choose (nat_lt b x.byte) (Some x) None (grind (arith, nat_tests)))
+above_more b x cs h = ap (λ c. child_or c (child_above b cs)) (choose (nat_lt b x.byte) (Some x) None (grind (arith, nat_tests)))
 
 pub above_not : (b : ℕ) (x : Child) (cs : List (Option Child)) → x.byte ≤ b → child_above b (Some x ∷ cs) ≡ child_above b cs
-above_not b x cs h = ap (λ c. or_else c (child_above b cs)) (refuse (nat_lt b x.byte) (Some x) None (grind (arith, nat_tests)))
+above_not b x cs h = ap (λ c. child_or c (child_above b cs)) (refuse (nat_lt b x.byte) (Some x) None (grind (arith, nat_tests)))
 
 -- children whose bytes are all above b
 pub record AllAbove (go : Go) (position b : ℕ) (cs : List (Option Child)) (ps : List Path) : Type 0 where
@@ -147,7 +147,7 @@ pub record Split (go : Go) (position b : ℕ) (cs : List (Option Child)) (ps : L
 
 -- the last of the lower children, with one more before them
 last_more : (go : Go) (position : ℕ) (x : Child) (mine less : List Path) (c : Option Child) → go (position - x.distance) ≡ Ok mine → LastIn go position c less
-    → LastIn go position (or_else c (Some x)) (map (longer x.byte) mine ++ less)
+    → LastIn go position (child_or c (Some x)) (map (longer x.byte) mine ++ less)
 last_more go position x mine less None g h = record { mine = mine; others = []; gives = g; joined = ap (λ l. map (longer x.byte) mine ++ l) h ∙ append-nil (map (longer x.byte) mine) }
 last_more go position x mine less (Some c) g h = record { mine = h.mine; others = map (longer x.byte) mine ++ h.others; gives = h.gives; joined = ap (λ l. map (longer x.byte) mine ++ l) h.joined ∙ again (map (longer x.byte) mine) h.others (map (longer c.byte) h.mine) }
   where
@@ -226,7 +226,7 @@ last_in go position [] ps h = none_ok ps h
 last_in go position (None ∷ cs) ps h = subst (λ c. LastIn go position c ps) (sym (or_none (greatest_child cs))) (last_in go position cs ps h)
 last_in go position (Some x ∷ cs) ps h =
     let two = cons_ok x.byte (go (position - x.distance)) (of_places go position cs) ps h in
-    subst (LastIn go position (or_else (greatest_child cs) (Some x))) two.joined (last_more go position x two.mine two.others (greatest_child cs) two.gives (last_in go position cs two.others two.rest))
+    subst (LastIn go position (child_or (greatest_child cs) (Some x))) two.joined (last_more go position x two.mine two.others (greatest_child cs) two.gives (last_in go position cs two.others two.rest))
 
 -- no path below a child is empty
 pub all_start : (go : Go) (position : ℕ) (cs : List (Option Child)) (ps : List Path) → of_places go position cs ≡ Ok ps → AllByRecursion (Starts (λ a. Unit {0})) ps

@@ -4,13 +4,13 @@ use Rattle.std.specs.Prelude.{if◌then◌else◌}
 use Rattle.outside.specs.declared.store.Part.{Part}
 use Rattle.bti_nodes.specs.declared.node.Child.{Child}
 use Rattle.bti_nodes.specs.Grammar.{Node, IsBack, AllBack}
-use Rattle.bti_nodes.specs.Children.{or_else, if_child, first_child, last_child, any, IsFull}
+use Rattle.bti_nodes.specs.Children.{child_or, if_child, first_child, last_child, any, HasPayloadOrChild}
 use Rattle.bti_nodes.proofs.Places.{child_back}
 use Rattle.bti_reader.specs.declared.ask.Question.{Question}
 use Rattle.bti_reader.specs.declared.ask.Question.TheVariants.{End, At, Floor, Ceiling, Least, Greatest}
 use Rattle.bti_reader.specs.Steps.{first_way, second_way, turn_of, hit_at, IsOpen}
 
-either_back : (position : ℕ) (c d : Option Child) → IsBack position c → IsBack position d → IsBack position (or_else c d)
+either_back : (position : ℕ) (c d : Option Child) → IsBack position c → IsBack position d → IsBack position (child_or c d)
 either_back position None d h k = k
 either_back position (Some c) d h k = h
 
@@ -42,21 +42,21 @@ paid : (part : Part) (passed position : ℕ) (payload : List ℕ) → 0 < length
 paid part passed position [] h = λ e. absurd (omega arith)
 paid part passed position (x ∷ xs) h = λ e. cc
 
-some_last : (c : Child) (d : Option Child) → or_else d (Some c) ≢ None
+some_last : (c : Child) (d : Option Child) → child_or d (Some c) ≢ None
 some_last c None = λ e. cc
 some_last c (Some d) = λ e. cc
 
-least_open : (part : Part) (passed position : ℕ) (payload : List ℕ) (cs : List (Option Child)) → IsFull payload cs → hit_at part passed position payload ≡ None → first_child any cs ≢ None
+least_open : (part : Part) (passed position : ℕ) (payload : List ℕ) (cs : List (Option Child)) → HasPayloadOrChild payload cs → hit_at part passed position payload ≡ None → first_child any cs ≢ None
 least_open part passed position payload [] h e = λ k. paid part passed position payload h e
 least_open part passed position payload (None ∷ cs) h e = absurd h
 least_open part passed position payload (Some c ∷ cs) h e = λ k. cc
 
-greatest_open : (part : Part) (passed position : ℕ) (payload : List ℕ) (cs : List (Option Child)) → IsFull payload cs → last_child any cs ≡ None → hit_at part passed position payload ≢ None
+greatest_open : (part : Part) (passed position : ℕ) (payload : List ℕ) (cs : List (Option Child)) → HasPayloadOrChild payload cs → last_child any cs ≡ None → hit_at part passed position payload ≢ None
 greatest_open part passed position payload [] h e = paid part passed position payload h
 greatest_open part passed position payload (None ∷ cs) h e = absurd h
 greatest_open part passed position payload (Some c ∷ cs) h e = absurd (some_last c (last_child any cs) e)
 
-pub is_open : (part : Part) (question : Question) (passed position : ℕ) (n : Node) → IsFull n.payload n.places → IsOpen question (turn_of part question passed position n)
+pub is_open : (part : Part) (question : Question) (passed position : ℕ) (n : Node) → HasPayloadOrChild n.payload n.places → IsOpen question (turn_of part question passed position n)
 is_open part End passed position n h = tt
 is_open part (At b) passed position n h = tt
 is_open part (Floor b) passed position n h = tt

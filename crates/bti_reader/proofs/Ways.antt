@@ -9,7 +9,7 @@ use Rattle.std.specs.Prelude.{if◌then◌else◌, ◌==◌}
 use Rattle.outside.specs.declared.store.Part.{Part}
 use Rattle.bti_nodes.specs.declared.node.Child.{Child}
 use Rattle.bti_nodes.specs.Grammar.{Node, Climbs, child_under}
-use Rattle.bti_nodes.specs.Children.{or_else, any, first_child, child_above, least_child}
+use Rattle.bti_nodes.specs.Children.{child_or, any, first_child, child_above, least_child}
 use Rattle.bti_nodes.specs.Trie.{Wrong, node_in}
 use Rattle.data_file.specs.declared.reading.DataError.{DataError}
 use Rattle.data_file.specs.declared.reading.DataError.TheVariants.{StoreFault, NoMemory, Damaged}
@@ -42,7 +42,7 @@ found_child p low (Some x ∷ cs) c climbs h = by (λ k. found_child p (x.byte +
     later true e l k = absurd (grind (arith, nat_tests))
     later false e l k = k
 
-    by : (first_child p cs ≡ Some c → (child_under c.byte cs ≡ Some c) × (x.byte + 1 ≤ c.byte)) → (t : Bool) → or_else (if t then Some x else None) (first_child p cs) ≡ Some c
+    by : (first_child p cs ≡ Some c → (child_under c.byte cs ≡ Some c) × (x.byte + 1 ≤ c.byte)) → (t : Bool) → child_or (if t then Some x else None) (first_child p cs) ≡ Some c
         → (child_under c.byte (Some x ∷ cs) ≡ Some c) × (low ≤ c.byte)
     by rest true h = let same : x ≡ c = cc in (this (x.byte == c.byte) refl same, subst (λ (y : Child). low ≤ y.byte) same climbs.0)
     by rest false h = let more = rest h in (later (x.byte == c.byte) refl (omega (arith, more.1)) more.0, omega (arith, more.1, climbs.0))

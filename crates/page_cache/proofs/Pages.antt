@@ -13,14 +13,14 @@ use Rattle.std.specs.Ordering.{nat_cmp, ordering_then, eq_by_cmp, is_eq}
 use Rattle.outside.specs.declared.store.FileId.{FileId}
 use Rattle.outside.specs.declared.store.Part.{Part}
 use Rattle.outside.specs.declared.stream.Failed.{Failed}
-use Rattle.outside.specs.Files.{Files, bytes_of, Reads, file_cmp, place_of, part_at, part_at-place_of}
+use Rattle.outside.specs.Files.{Files, bytes_of, ReadsBytes, file_cmp, place_of, part_at, part_at-place_of}
 use Rattle.outside.specs.Pages.{page_of}
 use Rattle.page_cache.specs.declared.key.PageKey.{PageKey}
 use Rattle.page_cache.specs.Key.{same_page, same_page_equiv, same_number}
 use Rattle.page_cache.specs.Pages.{Held, Honest, AreOf, Uses, others, used_last}
 
 -- what a read of a whole page gives is the page
-pub is_page : (files : Option Files) (file : FileId) (number at n : ℕ) (into b : List ℕ) → Reads {E = Failed} files file at (Ok n) into → at ≡ number * 4096 → length into ≡ 4096 → b ≡ take n into
+pub is_page : (files : Option Files) (file : FileId) (number at n : ℕ) (into b : List ℕ) → ReadsBytes {E = Failed} files file at (Ok n) into → at ≡ number * 4096 → length into ≡ 4096 → b ≡ take n into
     → IfSome files (λ m. b ≡ page_of (bytes_of m file) number)
 is_page None file number at n into b r a l e = tt
 is_page (Some m) file number at n into b r a l e =
