@@ -1,3 +1,7 @@
 pub mod SchemaLemmas
 pub mod WalkLemmas
 mod Determined
+pub mod Strings
+pub mod Blocked
+pub mod Numbering
+mod Indexed

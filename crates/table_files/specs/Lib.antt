@@ -1,6 +1,9 @@
 pub mod Names
 pub mod There
 pub mod SchemaFile
+pub mod Blocks
+pub mod Indexes
+pub mod IndexMeaning
 pub mod Standing
 pub mod Walk
 pub mod Laws

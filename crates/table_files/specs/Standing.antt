@@ -1,11 +1,11 @@
 -- The map for which the files of a generation stand. The layout of the files is this project's own.
-use Rattle.std.specs.Prelude.{◌≡◌, ◌≢◌, ℕ, List, [], ◌∷◌, ◌++◌, map, Option, Some, None}
+use Rattle.std.specs.Prelude.{◌≡◌, ◌≢◌, ◌≤◌, ℕ, List, [], ◌∷◌, ◌++◌, length, map, Option, Some, None}
 use Rattle.std.specs.declared.cmp.Ordering.TheVariants.{Less}
 use Rattle.std.specs.FinMap as finite
 use Rattle.key_types.specs.Columns.{Columns}
 use Rattle.key_types.specs.Table.{Entry, Table, string_cmp}
 use Rattle.outside.specs.Files.{Files, bytes_of}
-use Rattle.data_file.specs.Listing.{Row, Partition, Lists}
+use Rattle.data_file.specs.Listing.{Row, Partition, ArePartitions, Lists}
 use Rattle.table_files.specs.Names.{data_id, schema_id}
 use Rattle.table_files.specs.SchemaFile.{IsSchemaFile}
 
@@ -38,6 +38,13 @@ abbrev pub RowsAscend : List Partition → Type 0
 RowsAscend [] = Unit {0}
 RowsAscend (partition ∷ partitions) =
     (partition.static_part ≡ None → partition.rows ≢ []) × StringsAscend (map (λ row. row.clustering) partition.rows) × RowsAscend partitions
+
+-- The partitions are those of a table: partitions and rows ascend, and there are at most a million entries.
+pub record AreOfTable (columns : Columns) (partitions : List Partition) : Type 0 where
+  pub are : ArePartitions columns partitions
+  pub ascend : StringsAscend (map (λ partition. partition.key) partitions)
+  pub rows : RowsAscend partitions
+  pub few : length (entries_in partitions) ≤ 1000000
 
 -- ---- the files
 

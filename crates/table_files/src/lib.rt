@@ -9,6 +9,6 @@ mod names;
 mod schema_file;
 
 pub use error::FileError;
-pub use laws::{law_files_determine, law_stands_walk};
+pub use laws::{law_files_determine, law_indexes_stand, law_stands_walk};
 pub use names::{any_there, data_id, partitions_id, rows_id, schema_id};
 pub use schema_file::{read_schema, schema_file_text};
