@@ -56,25 +56,25 @@ SearchesAreMeaning =
     (file key : List ℕ) (root : ℕ) (ps : List Path) → paths file root ≡ Ok ps → SearchesFind file root key ps
 
 -- the first path comes before the second in the order of byte strings
-abbrev pub IsBefore : Path → Path → Type 0
-IsBefore p q = slice_cmp nat_cmp p.path q.path ≡ Less
+abbrev pub IsPathBefore : Path → Path → Type 0
+IsPathBefore p q = slice_cmp nat_cmp p.path q.path ≡ Less
 
 -- each path comes before all that follow it
-abbrev pub Ascend : List Path → Type 0
-Ascend [] = Unit {0}
-Ascend (p ∷ ps) = AllByRecursion (IsBefore p) ps × Ascend ps
+abbrev pub PathsAscend : List Path → Type 0
+PathsAscend [] = Unit {0}
+PathsAscend (p ∷ ps) = AllByRecursion (IsPathBefore p) ps × PathsAscend ps
 
 -- the first path, where there is one
-abbrev pub first_of : List Path → Option Path
-first_of [] = None
-first_of (p ∷ ps) = Some p
+abbrev pub first_that : List Path → Option Path
+first_that [] = None
+first_that (p ∷ ps) = Some p
 
 -- where the trie has a meaning, its paths ascend, and one after the other the search for the least path above the last
 -- one gives them all
 pub record IsOrder (file : List ℕ) (root : ℕ) (ps : List Path) : Type 0 where
-  pub ascend : Ascend ps
-  pub begins : first_path file root ≡ Ok (first_of ps)
-  pub goes_on : (xs ys : List Path) (p : Path) → ps ≡ xs ++ p ∷ ys → after_in file root p.path ≡ Ok (first_of ys)
+  pub ascend : PathsAscend ps
+  pub begins : first_path file root ≡ Ok (first_that ps)
+  pub goes_on : (xs ys : List Path) (p : Path) → ps ≡ xs ++ p ∷ ys → after_in file root p.path ≡ Ok (first_that ys)
 
 -- that is so for every trie that has a meaning
 abbrev pub PathsAreInOrder : Type 0

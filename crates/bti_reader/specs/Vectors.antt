@@ -28,7 +28,7 @@ found p = Ok (Some p)
 abbrev pub damaged : List ℕ
 damaged = 0x01 ∷ 0xFF ∷ 0x50 ∷ 0x00 ∷ []
 
-pub record AreVectors : Type 0 where
+pub record AreSearchVectors : Type 0 where
   pub exact_17 : exact_in forty 18 (key 17) ≡ found low
   pub exact_16 : exact_in forty 18 (key 16) ≡ Ok None
   pub floor_16 : floor_in forty 18 (key 16) ≡ Ok None

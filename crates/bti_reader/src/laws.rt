@@ -1,11 +1,11 @@
 //! Laws over the definitions: no call has more than its clause.
 ghost use Rattle.bti_reader.specs.Meaning.{SearchesAreMeaning, PathsAreInOrder};
 ghost use Rattle.bti_reader.specs.Walks.{WalkIsWhole};
-ghost use Rattle.bti_reader.specs.Vectors.{AreVectors};
+ghost use Rattle.bti_reader.specs.Vectors.{AreSearchVectors};
 
 /// Searches in the trie of a worked row.
 pub fn law_vectors()
-    ensures { AreVectors }
+    ensures { AreSearchVectors }
 {}
 
 /// What the searches find where the trie has a meaning.

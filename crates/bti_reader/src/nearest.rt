@@ -5,7 +5,7 @@ ghost use Rattle.outside.specs.Causes.{Rose};
 ghost use Rattle.page_cache.specs.Pages.{Honest};
 ghost use Rattle.bti_nodes.specs.Grammar.{IsBack};
 ghost use Rattle.bti_reader.specs.Searches.{first_path, last_path, below_from, above_from, floor_in, before_in, ceiling_in};
-ghost use Rattle.bti_reader.specs.Steps.{Finds, FindsSpare, found_len, kept, SpareFits};
+ghost use Rattle.bti_reader.specs.Steps.{FindsHit, FindsSpare, found_len, kept, SpareFits};
 
 use crate::ask::{Hit, Question, ask};
 use crate::paths::{first_path, last_path};
@@ -111,7 +111,7 @@ fn greatest_below<K: Store>(
     itself: bool,
 ) -> Result<Option<Hit>, DataError>
     requires { Honest (K.files store.old) cache.old }
-    ensures found { Finds (K.files store.old) file 0 (λ bytes. below_from itself bytes root key.now) result }
+    ensures found { FindsHit (K.files store.old) file 0 (λ bytes. below_from itself bytes root key.now) result }
     ensures honest { Honest (K.files store.new) cache.new }
     ensures files { K.files store.new ≡ K.files store.old }
     ensures reads { IfOk result (λ hit. K.reads store.new ≤ K.reads store.old + length key.now + 1 + found_len hit) }
@@ -152,7 +152,7 @@ pub fn floor<K: Store>(
     key: &[u8],
 ) -> Result<Option<Hit>, DataError>
     requires { Honest (K.files store.old) cache.old }
-    ensures found { Finds (K.files store.old) file 0 (λ bytes. floor_in bytes root key.now) result }
+    ensures found { FindsHit (K.files store.old) file 0 (λ bytes. floor_in bytes root key.now) result }
     ensures honest { Honest (K.files store.new) cache.new }
     ensures files { K.files store.new ≡ K.files store.old }
     ensures reads { IfOk result (λ hit. K.reads store.new ≤ K.reads store.old + length key.now + 1 + found_len hit) }
@@ -172,7 +172,7 @@ pub fn before<K: Store>(
     key: &[u8],
 ) -> Result<Option<Hit>, DataError>
     requires { Honest (K.files store.old) cache.old }
-    ensures found { Finds (K.files store.old) file 0 (λ bytes. before_in bytes root key.now) result }
+    ensures found { FindsHit (K.files store.old) file 0 (λ bytes. before_in bytes root key.now) result }
     ensures honest { Honest (K.files store.new) cache.new }
     ensures files { K.files store.new ≡ K.files store.old }
     ensures reads { IfOk result (λ hit. K.reads store.new ≤ K.reads store.old + length key.now + 1 + found_len hit) }
@@ -192,7 +192,7 @@ pub fn ceiling<K: Store>(
     key: &[u8],
 ) -> Result<Option<Hit>, DataError>
     requires { Honest (K.files store.old) cache.old }
-    ensures found { Finds (K.files store.old) file 0 (λ bytes. ceiling_in bytes root key.now) result }
+    ensures found { FindsHit (K.files store.old) file 0 (λ bytes. ceiling_in bytes root key.now) result }
     ensures honest { Honest (K.files store.new) cache.new }
     ensures files { K.files store.new ≡ K.files store.old }
     ensures reads { IfOk result (λ hit. K.reads store.new ≤ K.reads store.old + length key.now + 1 + found_len hit) }

@@ -4,7 +4,7 @@ ghost use Rattle.std.specs.Prelude.{◌≡◌, ◌<◌, ◌≤◌, ◌+◌, ◌^
 ghost use Rattle.outside.specs.Causes.{Rose};
 ghost use Rattle.page_cache.specs.Pages.{Honest};
 ghost use Rattle.bti_reader.specs.Searches.{exact_in, first_path, last_path};
-ghost use Rattle.bti_reader.specs.Steps.{Finds, question_at, WithinPath};
+ghost use Rattle.bti_reader.specs.Steps.{FindsHit, question_at, WithinPath};
 
 use crate::ask::{Hit, Question, ask};
 use data_file::DataError;
@@ -30,7 +30,7 @@ pub fn exact<K: Store>(
     key: &[u8],
 ) -> Result<Option<Hit>, DataError>
     requires { Honest (K.files store.old) cache.old }
-    ensures found { Finds (K.files store.old) file 0 (λ bytes. exact_in bytes root key.now) result }
+    ensures found { FindsHit (K.files store.old) file 0 (λ bytes. exact_in bytes root key.now) result }
     ensures honest { Honest (K.files store.new) cache.new }
     ensures files { K.files store.new ≡ K.files store.old }
     ensures reads { K.reads store.new ≤ K.reads store.old + (length key.now + 1) }
@@ -69,7 +69,7 @@ pub fn first_path<K: Store>(
 ) -> Result<Option<Hit>, DataError>
     requires honest { Honest (K.files store.old) cache.old }
     requires room { taken + start < 2 ^ 64 }
-    ensures found { Finds (K.files store.old) file taken (λ bytes. first_path bytes start) result }
+    ensures found { FindsHit (K.files store.old) file taken (λ bytes. first_path bytes start) result }
     ensures some { IfOk result IsSome }
     ensures honest { Honest (K.files store.new) cache.new }
     ensures files { K.files store.new ≡ K.files store.old }
@@ -104,7 +104,7 @@ pub fn last_path<K: Store>(
 ) -> Result<Option<Hit>, DataError>
     requires honest { Honest (K.files store.old) cache.old }
     requires room { taken + start < 2 ^ 64 }
-    ensures found { Finds (K.files store.old) file taken (λ bytes. last_path bytes start) result }
+    ensures found { FindsHit (K.files store.old) file taken (λ bytes. last_path bytes start) result }
     ensures some { IfOk result IsSome }
     ensures honest { Honest (K.files store.new) cache.new }
     ensures files { K.files store.new ≡ K.files store.old }

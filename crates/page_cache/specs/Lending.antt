@@ -5,9 +5,9 @@ use Rattle.std.specs.Borrow.{follows_so, MutBor, Fml}
 use Rattle.outside.specs.declared.store.FileId.{FileId}
 use Rattle.outside.specs.Files.{Files}
 use Rattle.page_cache.specs.contracts.cache.PageCache.{the_row}
-use Rattle.page_cache.specs.Pages.{Held, Uses}
+use Rattle.page_cache.specs.Pages.{HeldPages, Uses}
 
 -- Once the page's bytes aren't borrowed any more, the pages are what a call for that page makes of them.
-abbrev pub EndsUsed : {T E : Type 0} → MutBor Held → Option Files → FileId → ℕ → Held → Result T E → Fml
+abbrev pub EndsUsed : {T E : Type 0} → MutBor HeldPages → Option Files → FileId → ℕ → HeldPages → Result T E → Fml
 EndsUsed c files file number old result =
     follows_so the_row the_row c.ghost_name none (λ _ _. ⊤) (λ new. Uses files file number old result new)

@@ -8,8 +8,8 @@ use Rattle.page_cache.specs.declared.key.PageKey.{PageKey}
 use Rattle.page_cache.specs.Key.{same_page}
 
 -- the pages that are held, none twice, and their bytes; the last used first
-abbrev pub Held : Type 0
-Held = List (PageKey × List ℕ)
+abbrev pub HeldPages : Type 0
+HeldPages = List (PageKey × List ℕ)
 
 -- the page of that number of a file
 abbrev pub page_key : FileId → ℕ → PageKey
@@ -25,23 +25,23 @@ abbrev pub used_last : PageKey → List PageKey → List PageKey
 used_last key ks = take 64 (key ∷ others key ks)
 
 -- each page that is held is that page of its file
-abbrev pub AreOf : Files → Held → Type 0
+abbrev pub AreOf : Files → HeldPages → Type 0
 AreOf files [] = Unit {0}
 AreOf files (p ∷ ps) = (p.1 ≡ page_of (bytes_of files p.0.file) p.0.number) × AreOf files ps
 
 -- where the files are told, each page that is held is that page of its file as it stands
-abbrev pub Honest : Option Files → Held → Type 0
+abbrev pub Honest : Option Files → HeldPages → Type 0
 Honest None ps = Unit {0}
 Honest (Some files) ps = AreOf files ps
 
 -- the bytes of a page, where it is held
-abbrev pub page_in : FileId → ℕ → Held → Option (List ℕ)
+abbrev pub page_in : FileId → ℕ → HeldPages → Option (List ℕ)
 page_in file number ps = lookup (same_page (page_key file number)) ps
 
 -- What a call for a page does to the pages that are held. At Ok the page is the last used; after an Err they are as
 -- before.
 pub record Uses {T E : Type 0} (files : Option Files) (file : FileId) (number : ℕ)
-    (old : Held) (result : Result T E) (new : Held) : Type 0 where
+    (old : HeldPages) (result : Result T E) (new : HeldPages) : Type 0 where
   pub honest : Honest files new
   pub ok : OnOk result (keys_of new ≡ used_last (page_key file number) (keys_of old))
   pub err : OnErr result (new ≡ old)

@@ -33,9 +33,9 @@ pub struct PageCache {
 
 impl Model for PageCache {
     ghost use Rattle.std.specs.Prelude.{◌≡◌};
-    ghost use Rattle.page_cache.specs.Pages.{Held};
+    ghost use Rattle.page_cache.specs.Pages.{HeldPages};
 
-    ghost Value = { Held };
+    ghost Value = { HeldPages };
 
     ghost view = { λ c. c.pages.entries };
 

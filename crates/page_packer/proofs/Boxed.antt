@@ -9,7 +9,7 @@ use Rattle.page_packer.specs.Tree.{Tree, Branches, tree, end, branch, path, with
 use Rattle.page_packer.specs.Sound.{Ascend, IsFull, Sound, SoundUnder}
 use Rattle.page_packer.specs.declared.boxes.Branch.{Branch}
 use Rattle.page_packer.specs.declared.boxes.Link.{Link, End, Last'}
-use Rattle.page_packer.specs.Boxes.{branches_of, and_last, node_in, with_path, EndsUnder, capped, IsWeighed, IsKept, Sees}
+use Rattle.page_packer.specs.Boxes.{branches_of, and_last, node_in_box, with_path, EndsUnder, capped, IsWeighed, IsKept, Sees}
 
 by_test : (t : Bool) (d : ℕ) (u : Tree) (x y : Branches) → branch d u (if t then x else y) ≡ (if t then branch d u x else branch d u y)
 by_test true d u x y = refl
@@ -168,7 +168,7 @@ kept (Last' q byte w so_far payload children before) h = (kept children h.2, h.3
 
 -- a box that was weighed, and one that is along the last branches
 abbrev pub WeighedBox : Branch → Type 0
-WeighedBox b = (b.weight ≡ capped (weight (node_in b))) × Sees b.so_far (and_last (branches_of b.before) b.byte (node_in b)) × IsWeighed b.children × IsWeighed b.before
+WeighedBox b = (b.weight ≡ capped (weight (node_in_box b))) × Sees b.so_far (and_last (branches_of b.before) b.byte (node_in_box b)) × IsWeighed b.children × IsWeighed b.before
 
 abbrev pub KeptBox : Branch → Type 0
 KeptBox b = IsKept b.children × IsWeighed b.before

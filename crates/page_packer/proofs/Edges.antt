@@ -7,10 +7,10 @@ use Rattle.std.specs.Prelude.{◌==◌, if◌then◌else◌}
 use Rattle.std.specs.List.{AllByRecursion}
 use Rattle.bti_nodes.specs.Spelling.{zeros}
 use Rattle.page_packer.specs.declared.work.Stood.{Stood}
-use Rattle.page_packer.specs.Tree.{Tree, Branches, tree, end, branch, Entry, IsBelow, key_after, last_key, key_bytes, path, with_key, with_branch, tree_of, letters, weight}
+use Rattle.page_packer.specs.Tree.{Tree, Branches, tree, end, branch, TrieEntry, IsBelow, key_after, last_key, key_bytes, path, with_key, with_branch, tree_of, letters, weight}
 use Rattle.page_packer.specs.Layout.{Laid, lay, lay_under, packed, light, shifted, closed_in_page, gap, node_at_place}
 use Rattle.page_packer.specs.Early.{early, early_under, early_of, early_more}
-use Rattle.page_packer.specs.Edge.{Edge, whole, above, and_stood, left, left_under, under_of, closes, after, Grown, onto, begun, beside_last, with_more, Frontier, Reached, with_one, more_of, frontier_with}
+use Rattle.page_packer.specs.Edge.{Edge, whole, above, and_stood, left, left_under, under_of, closes, after, Grown, put_onto, begun, beside_last, with_more, Frontier, Reached, with_one, more_of, frontier_with}
 use Rattle.page_packer.proofs.Grown.{last_of, last_under, first_bytes, never_below, grown_sound, grown_more, ascend_more}
 use Rattle.page_packer.proofs.Heavier.{key_heavier}
 use Rattle.page_packer.proofs.Early.{stays_heavy, early_behind, some_branch}
@@ -122,8 +122,8 @@ mutual
       let e = early t p in
       let to = p + length e in
       let last = closes (left t p) to in
-      let on = onto q done c (with_more (left t p) rest v to) in
-      let off = beside_last last (onto q (and_stood done c last.root) b (begun (path rest v) (to + length last.bytes))) in
+      let on = put_onto q done c (with_more (left t p) rest v to) in
+      let off = beside_last last (put_onto q (and_stood done c last.root) b (begun (path rest v) (to + length last.bytes))) in
       elim (first_bytes c b (last_of t) rest h) as (λ _. Steps (early_under (branch c t end) p) (early_under (with_branch (branch c t end) b rest v) p) (left_under q done (with_branch (branch c t end) b rest v) p) (with_more (left_under q done (branch c t end) p) (b ∷ rest) v (p + length (early_under (branch c t end) p)))) [
         | inl less ↦ (let no : (c == b) ≡ false = grind (arith, nat_tests) in
             let is = edge_closes t p in
@@ -155,18 +155,18 @@ mutual
       } in
       subst (λ n. Steps (first.bytes ++ e) (early_under (branch c t more) p) (left_under q done (branch c t more) p) (with_more (left_under q stood all next) (b ∷ rest) v n)) to (record { bytes = early_behind c t more p some ∙ one.bytes; edge = left_behind q done c t more p some ∙ one.edge })
 
-bytes_more : (es : List Entry) (e : Entry) → key_bytes (es ++ e ∷ []) ≡ key_bytes es + length e.key
+bytes_more : (es : List TrieEntry) (e : TrieEntry) → key_bytes (es ++ e ∷ []) ≡ key_bytes es + length e.key
 bytes_more [] e = omega arith
 bytes_more (x ∷ es) e = let h = bytes_more es e in omega (arith, h)
 
-last_more : (es : List Entry) (last : List ℕ) (e : Entry) → key_after last (es ++ e ∷ []) ≡ e.key
+last_more : (es : List TrieEntry) (last : List ℕ) (e : TrieEntry) → key_after last (es ++ e ∷ []) ≡ e.key
 last_more [] last e = refl
 last_more (x ∷ es) last e = last_more es x.key e
 
-abbrev entry : List ℕ → List ℕ → Entry
+abbrev entry : List ℕ → List ℕ → TrieEntry
 entry k v = record { key = k; payload = v }
 
-pub frontier_grows : (p : Frontier) (es : List Entry) (key v : List ℕ) → Reached p es → IsBelow p.last key → AllByRecursion (λ b. b < 256) key → 0 < length v → length v ≤ 7 → p.bytes + length key ≤ 2 ^ 30
+pub frontier_grows : (p : Frontier) (es : List TrieEntry) (key v : List ℕ) → Reached p es → IsBelow p.last key → AllByRecursion (λ b. b < 256) key → 0 < length v → length v ≤ 7 → p.bytes + length key ≤ 2 ^ 30
     → Reached (frontier_with p key v) (with_one es key v) × ((more_of p key v).bytes ≡ early_more es (entry key v ∷ []) p.start)
 frontier_grows p es key v h above_last bytes paid short few =
     let t = tree_of es in
@@ -190,6 +190,6 @@ frontier_grows p es key v h above_last bytes paid short few =
       sym (ap (λ x. drop (length e) x) grew ∙ drop-append_seam e (more_of p key v).bytes),
     )
 
-pub frontier_closes : (p : Frontier) (es : List Entry) → Reached p es → lay (tree_of es) p.start ≡ after (early_of es p.start) (closes p.edge p.end_)
+pub frontier_closes : (p : Frontier) (es : List TrieEntry) → Reached p es → lay (tree_of es) p.start ≡ after (early_of es p.start) (closes p.edge p.end_)
 frontier_closes p es h =
     edge_closes (tree_of es) p.start ∙ ap (λ n. after (early_of es p.start) (closes (left (tree_of es) p.start) n)) (sym h.end_) ∙ ap (λ (x : Edge). after (early_of es p.start) (closes x p.end_)) (sym h.edge)

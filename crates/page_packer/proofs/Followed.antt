@@ -9,7 +9,7 @@ use Rattle.page_packer.specs.Tree.{Tree, Branches, tree, end, branch, IsBelow, p
 use Rattle.page_packer.specs.Sound.{Ascend, Sound, SoundUnder, count}
 use Rattle.page_packer.specs.Layout.{Laid, lay, light}
 use Rattle.page_packer.specs.Early.{early, early_under}
-use Rattle.page_packer.specs.Edge.{Edge, whole, bare, above, and_stood, left, left_under, closes, Grown, onto, begun, beside_last, with_more}
+use Rattle.page_packer.specs.Edge.{Edge, whole, bare, above, and_stood, left, left_under, closes, Grown, put_onto, begun, beside_last, with_more}
 use Rattle.page_packer.specs.Levels.{edge_over, closes_over, followed, over_grown, last_over, Climb, AllNear, AreLevels}
 use Rattle.page_packer.proofs.Grown.{first_bytes, never_below}
 use Rattle.page_packer.proofs.Length.{lay_root, lay_len}
@@ -36,11 +36,11 @@ follows_all (l ∷ ls) t (b ∷ rest) v p h =
     let q = bytes_in l.payload in
     let edge = edge_over ls (whole t) in
     let last = closes edge p in
-    let on = onto q l.done.items l.byte (with_more edge rest v p) in
-    let off = beside_last last (onto q (and_stood l.done.items l.byte last.root) b (begun (path rest v) (p + length last.bytes))) in
+    let on = put_onto q l.done.items l.byte (with_more edge rest v p) in
+    let off = beside_last last (put_onto q (and_stood l.done.items l.byte last.root) b (begun (path rest v) (p + length last.bytes))) in
     elim (test_or (l.byte == b)) as (λ _. with_more (edge_over (l ∷ ls) (whole t)) (b ∷ rest) v p ≡ over_grown (l ∷ ls) (begun (with_key t (drop (length (l ∷ ls)) (b ∷ rest)) v) p)) [
       | inl e ↦ (let n : followed ls rest ≡ length ls = omega (arith, h, pick (l.byte == b) (1 + followed ls rest) 0 e) in
-          pick (l.byte == b) on off e ∙ ap (onto q l.done.items l.byte) (follows_all ls t rest v p n))
+          pick (l.byte == b) on off e ∙ ap (put_onto q l.done.items l.byte) (follows_all ls t rest v p n))
       | inr e ↦ absurd (omega (arith, h, pass (l.byte == b) (1 + followed ls rest) 0 e))
     ]
 
@@ -48,7 +48,7 @@ follows_all (l ∷ ls) t (b ∷ rest) v p h =
 abbrev pub parted : Level → List Level → Tree → ℕ → List ℕ → List ℕ → ℕ → Grown
 parted l below t b rest v p =
     let last = closes_over below (lay t p) p in
-    beside_last last (onto (bytes_in l.payload) (and_stood l.done.items l.byte last.root) b (begun (path rest v) (p + length last.bytes)))
+    beside_last last (put_onto (bytes_in l.payload) (and_stood l.done.items l.byte last.root) b (begun (path rest v) (p + length last.bytes)))
 
 -- a key that leaves a level
 pub record Leaves (ls : List Level) (t : Tree) (key v : List ℕ) (p d : ℕ) : Type 0 where
@@ -64,8 +64,8 @@ leaves (l ∷ ls) t (b ∷ rest) v p d e h below =
     let q = bytes_in l.payload in
     let edge = edge_over ls (whole t) in
     let last = closes edge p in
-    let on = onto q l.done.items l.byte (with_more edge rest v p) in
-    let off = beside_last last (onto q (and_stood l.done.items l.byte last.root) b (begun (path rest v) (p + length last.bytes))) in
+    let on = put_onto q l.done.items l.byte (with_more edge rest v p) in
+    let off = beside_last last (put_onto q (and_stood l.done.items l.byte last.root) b (begun (path rest v) (p + length last.bytes))) in
     elim (test_or (l.byte == b)) as (λ _. Leaves (l ∷ ls) t (b ∷ rest) v p d) [
       | inl s ↦ (let n : d ≡ suc (followed ls rest) = omega (arith, e, pick (l.byte == b) (1 + followed ls rest) 0 s) in
           let same : l.byte ≡ b = grind (arith, nat_tests) in
@@ -75,7 +75,7 @@ leaves (l ∷ ls) t (b ∷ rest) v p d e h below =
             level = r.level;
             split_ = ap (λ (x : List Level). l ∷ x) r.split_;
             some = omega (arith, r.some);
-            grown = pick (l.byte == b) on off s ∙ ap (onto q l.done.items l.byte) r.grown;
+            grown = pick (l.byte == b) on off s ∙ ap (put_onto q l.done.items l.byte) r.grown;
           }))
       | inr s ↦ (let n : d ≡ 0 = e ∙ pass (l.byte == b) (1 + followed ls rest) 0 s in
           let is : last ≡ closes_over ls (lay t p) p = over_closes ls (whole t) p in
@@ -83,7 +83,7 @@ leaves (l ∷ ls) t (b ∷ rest) v p d e h below =
             level = l;
             split_ = refl;
             some = omega arith;
-            grown = pass (l.byte == b) on off s ∙ ap (λ (x : Laid). beside_last x (onto q (and_stood l.done.items l.byte x.root) b (begun (path rest v) (p + length x.bytes)))) is;
+            grown = pass (l.byte == b) on off s ∙ ap (λ (x : Laid). beside_last x (put_onto q (and_stood l.done.items l.byte x.root) b (begun (path rest v) (p + length x.bytes)))) is;
           }))
     ]
 

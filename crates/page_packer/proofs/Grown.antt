@@ -8,7 +8,7 @@ use Rattle.std.specs.declared.cmp.Ordering.{Ordering}
 use Rattle.std.specs.declared.cmp.Ordering.TheVariants.{Less, Equal, Greater}
 use Rattle.std.specs.Ordering.{nat_cmp, ordering_then}
 use Rattle.std.specs.Cmp.Lexicographic.{slice_cmp}
-use Rattle.page_packer.specs.Tree.{Tree, Branches, tree, end, branch, Entry, IsBelow, IsEntry, AscendFrom, AreEntries, key_after, last_key, path, with_key, with_branch, grown, tree_of, below, own, entries_of, entries_under, letters}
+use Rattle.page_packer.specs.Tree.{Tree, Branches, tree, end, branch, TrieEntry, IsBelow, IsEntry, AscendFrom, AreEntries, key_after, last_key, path, with_key, with_branch, grown, tree_of, below, own, entries_of, entries_under, letters}
 pub use Rattle.page_packer.specs.Last.{last_of, last_under}
 use Rattle.page_packer.specs.Sound.{Ascend, IsFull, Sound, SoundUnder}
 
@@ -78,7 +78,7 @@ mutual
       let r = branch_sound (branch d u bs) (c + 1) b rest p a.2 s.2 (low_below (c + 1) b rest d u bs a.2 h) m bytes paid short h in
       ((a.0, a.1, r.0), (s.0, s.1, r.1), omega arith, last_behind c t (with_branch (branch d u bs) b rest p) r.2 ∙ r.3)
 
-pub grown_sound : (es : List Entry) (t : Tree) → Sound t → AscendFrom (last_of t) es → Sound (grown t es) × (last_of (grown t es) ≡ key_after (last_of t) es)
+pub grown_sound : (es : List TrieEntry) (t : Tree) → Sound t → AscendFrom (last_of t) es → Sound (grown t es) × (last_of (grown t es) ≡ key_after (last_of t) es)
 grown_sound [] t s h = (s, refl)
 grown_sound (e ∷ es) t s h =
     let r = key_sound t e.key e.payload s h.1.bytes h.1.paid h.1.short h.0 in
@@ -88,14 +88,14 @@ grown_sound (e ∷ es) t s h =
 abbrev empty : Tree
 empty = tree [] end
 
-pub sound_tree : (es : List Entry) → AreEntries es → Sound (tree_of es)
+pub sound_tree : (es : List TrieEntry) → AreEntries es → Sound (tree_of es)
 sound_tree es h = (grown_sound es empty (omega arith, tt, tt) h).0
 
-pub last_is : (es : List Entry) → AreEntries es → last_of (tree_of es) ≡ last_key es
+pub last_is : (es : List TrieEntry) → AreEntries es → last_of (tree_of es) ≡ last_key es
 last_is es h = (grown_sound es empty (omega arith, tt, tt) h).1
 
 -- the entries
-abbrev entry : List ℕ → List ℕ → Entry
+abbrev entry : List ℕ → List ℕ → TrieEntry
 entry k p = record { key = k; payload = p }
 
 path_entries : (k p : List ℕ) → 0 < length p → entries_of (path k p) ≡ entry k p ∷ []
@@ -103,7 +103,7 @@ path_entries [] [] h = absurd (omega arith)
 path_entries [] (x ∷ p) h = refl
 path_entries (b ∷ k) p h = ap (λ es. map (below b) es ++ []) (path_entries k p h)
 
-map_append : (f : Entry → Entry) (xs ys : List Entry) → map f (xs ++ ys) ≡ map f xs ++ map f ys
+map_append : (f : TrieEntry → TrieEntry) (xs ys : List TrieEntry) → map f (xs ++ ys) ≡ map f xs ++ map f ys
 map_append f [] ys = refl
 map_append f (x ∷ xs) ys = ap (λ l. f x ∷ l) (map_append f xs ys)
 
@@ -126,7 +126,7 @@ mutual
   branch_entries (branch c t (branch d u bs)) b rest p paid h =
       ap (λ es. map (below c) (entries_of t) ++ es) (branch_entries (branch d u bs) b rest p paid h) ∙ sym (append_assoc (map (below c) (entries_of t)) (entries_under (branch d u bs)) (entry (b ∷ rest) p ∷ []))
 
-grown_entries : (es : List Entry) (t : Tree) → Sound t → AscendFrom (last_of t) es → entries_of (grown t es) ≡ entries_of t ++ es
+grown_entries : (es : List TrieEntry) (t : Tree) → Sound t → AscendFrom (last_of t) es → entries_of (grown t es) ≡ entries_of t ++ es
 grown_entries [] t s h = sym (append-nil (entries_of t))
 grown_entries (e ∷ es) t s h =
     let r = key_sound t e.key e.payload s h.1.bytes h.1.paid h.1.short h.0 in
@@ -134,13 +134,13 @@ grown_entries (e ∷ es) t s h =
     ∙ ap (λ xs. xs ++ es) (key_entries t e.key e.payload h.1.paid h.0) ∙ append_assoc (entries_of t) (e ∷ []) es
 
 -- the entries of the tree of ascending keys are those keys
-pub same_entries : (es : List Entry) → AreEntries es → entries_of (tree_of es) ≡ es
+pub same_entries : (es : List TrieEntry) → AreEntries es → entries_of (tree_of es) ≡ es
 same_entries es h = grown_entries es empty (omega arith, tt, tt) h
 
-pub grown_more : (es : List Entry) (t : Tree) (e : Entry) → grown t (es ++ e ∷ []) ≡ with_key (grown t es) e.key e.payload
+pub grown_more : (es : List TrieEntry) (t : Tree) (e : TrieEntry) → grown t (es ++ e ∷ []) ≡ with_key (grown t es) e.key e.payload
 grown_more [] t e = refl
 grown_more (x ∷ es) t e = grown_more es (with_key t x.key x.payload) e
 
-pub ascend_more : (es : List Entry) (last : List ℕ) (e : Entry) → AscendFrom last es → IsBelow (key_after last es) e.key → IsEntry e → AscendFrom last (es ++ e ∷ [])
+pub ascend_more : (es : List TrieEntry) (last : List ℕ) (e : TrieEntry) → AscendFrom last es → IsBelow (key_after last es) e.key → IsEntry e → AscendFrom last (es ++ e ∷ [])
 ascend_more [] last e a h k = (h, k, tt)
 ascend_more (x ∷ es) last e a h k = (a.0, a.1, ascend_more es x.key e a.2 h k)

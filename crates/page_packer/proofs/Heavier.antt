@@ -10,7 +10,7 @@ use Rattle.bti_nodes.specs.declared.table.Shape.TheVariants.{Leaf, Short, Single
 use Rattle.bti_nodes.specs.declared.outline.Outline.{Outline}
 use Rattle.bti_nodes.specs.Spelling.{outline_by, outline_size, distant, last_letter, chosen, size_by, kind_of_number, holds, shape_holds, places_for}
 use Rattle.bti_nodes.proofs.Choice.{is_choice}
-use Rattle.page_packer.specs.Tree.{Tree, Branches, tree, end, branch, Entry, IsBelow, AscendFrom, AreEntries, key_after, with_key, with_branch, grown, letters, unplaced, weight, weights, weight_here}
+use Rattle.page_packer.specs.Tree.{Tree, Branches, tree, end, branch, TrieEntry, IsBelow, AscendFrom, AreEntries, key_after, with_key, with_branch, grown, letters, unplaced, weight, weights, weight_here}
 use Rattle.page_packer.specs.Sound.{Sound}
 use Rattle.page_packer.proofs.Grown.{last_of, last_under, first_bytes, never_below, key_sound, grown_sound}
 use Rattle.page_packer.proofs.Boxed.{last_more, count_more}
@@ -163,7 +163,7 @@ mutual
       ]
   branch_heavier (branch c t (branch d u bs)) b rest p h = let k = branch_heavier (branch d u bs) b rest p h in omega (arith, k)
 
-pub grown_heavier : (es : List Entry) (t : Tree) → Sound t → AscendFrom (last_of t) es → weight t ≤ weight (grown t es)
+pub grown_heavier : (es : List TrieEntry) (t : Tree) → Sound t → AscendFrom (last_of t) es → weight t ≤ weight (grown t es)
 grown_heavier [] t s h = omega arith
 grown_heavier (e ∷ es) t s h =
     let r = key_sound t e.key e.payload s h.1.bytes h.1.paid h.1.short h.0 in
@@ -171,15 +171,15 @@ grown_heavier (e ∷ es) t s h =
     let g = grown_heavier es (with_key t e.key e.payload) r.0 (subst (λ k. AscendFrom k es) (sym r.2) h.2) in
     omega (arith, k, g)
 
-pub grown_then : (es more : List Entry) (t : Tree) → grown t (es ++ more) ≡ grown (grown t es) more
+pub grown_then : (es more : List TrieEntry) (t : Tree) → grown t (es ++ more) ≡ grown (grown t es) more
 grown_then [] more t = refl
 grown_then (e ∷ es) more t = grown_then es more (with_key t e.key e.payload)
 
-pub ascend_parts : (es more : List Entry) (last : List ℕ) → AscendFrom last (es ++ more) → AscendFrom last es × AscendFrom (key_after last es) more
+pub ascend_parts : (es more : List TrieEntry) (last : List ℕ) → AscendFrom last (es ++ more) → AscendFrom last es × AscendFrom (key_after last es) more
 ascend_parts [] more last h = (tt, h)
 ascend_parts (e ∷ es) more last h = let r = ascend_parts es more e.key h.2 in ((h.0, h.1, r.0), r.1)
 
-pub list_heavier : (q : List ℕ) (es more : List Entry) → length q ≤ 7 → AreEntries (es ++ more) → weight (grown (tree q end) es) ≤ weight (grown (tree q end) (es ++ more))
+pub list_heavier : (q : List ℕ) (es more : List TrieEntry) → length q ≤ 7 → AreEntries (es ++ more) → weight (grown (tree q end) es) ≤ weight (grown (tree q end) (es ++ more))
 list_heavier q es more short h =
     let parts = ascend_parts es more [] h in
     let s = grown_sound es (tree q end) (short, tt, tt) parts.0 in

@@ -6,7 +6,7 @@ use Rattle.std.specs.Prelude.{if◌then◌else◌, nat_lt, ◌==◌}
 use Rattle.bti_nodes.specs.Spelling.{Parts, outline_by, outline_size, distant, chosen, last_letter, zeros}
 use Rattle.bti_nodes.proofs.Sizes.{size_is_length}
 use Rattle.bti_nodes.proofs.Choice.{size_by_children, by_outline}
-use Rattle.page_packer.specs.Tree.{Tree, Branches, tree, end, branch, Entry, AreEntries, key_bytes, tree_of, grown, path, with_key, with_branch, weight, weights, weight_here, letters, unplaced}
+use Rattle.page_packer.specs.Tree.{Tree, Branches, tree, end, branch, TrieEntry, AreEntries, key_bytes, tree_of, grown, path, with_key, with_branch, weight, weights, weight_here, letters, unplaced}
 use Rattle.page_packer.specs.Layout.{Laid, lay, lay_under, packed, light, gap, shifted, closed_in_page, node_at_place, seen_from}
 use Rattle.page_packer.specs.Sound.{Ascend, Sound, SoundUnder, count, counts}
 use Rattle.page_packer.specs.declared.work.Stood.{Stood}
@@ -165,14 +165,14 @@ mutual
       one_branch (c == b) c b t (with_key t k p) (path k p) (suc (length k)) (let h = key_count t k p in omega (arith, h)) (let h = path_count k p in omega (arith, h))
   branch_count (branch c t (branch d u bs)) b k p = let h = branch_count (branch d u bs) b k p in omega (arith, h)
 
-grown_count : (es : List Entry) (t : Tree) → count (grown t es) ≤ count t + key_bytes es
+grown_count : (es : List TrieEntry) (t : Tree) → count (grown t es) ≤ count t + key_bytes es
 grown_count [] t = omega arith
 grown_count (e ∷ es) t = let h = grown_count es (with_key t e.key e.payload) in let k = key_count t e.key e.payload in omega (arith, h, k)
 
-pub tree_count : (es : List Entry) → count (tree_of es) ≤ key_bytes es + 1
+pub tree_count : (es : List TrieEntry) → count (tree_of es) ≤ key_bytes es + 1
 tree_count es = let n = grown_count es (tree [] end) in omega (arith, n)
 
-pub length_bound : (es : List Entry) (p : ℕ) → AreEntries es → key_bytes es ≤ 2 ^ 30 → length (lay (tree_of es) p).bytes ≤ 32 * (key_bytes es + 1)
+pub length_bound : (es : List TrieEntry) (p : ℕ) → AreEntries es → key_bytes es ≤ 2 ^ 30 → length (lay (tree_of es) p).bytes ≤ 32 * (key_bytes es + 1)
 length_bound es p entries small =
     let n = tree_count es in
     omega (arith, n, lay_len (tree_of es) p (sound_tree es entries) (omega (arith, n)))

@@ -7,9 +7,9 @@ use Rattle.bti_nodes.specs.Grammar.{Node}
 use Rattle.bti_nodes.specs.Laws.{standing}
 use Rattle.bti_nodes.specs.Trie as trie
 use Rattle.bti_nodes.specs.Trie.{Wrong, Path, Paths, node_in, longer, under, both, of_places, of_node, paths_by, paths}
-use Rattle.page_packer.specs.Tree.{Tree, Branches, tree, end, branch, Entry, AreEntries, key_bytes, tree_of, below, own, entries_of, entries_under}
+use Rattle.page_packer.specs.Tree.{Tree, Branches, tree, end, branch, TrieEntry, AreEntries, key_bytes, tree_of, below, own, entries_of, entries_under}
 use Rattle.page_packer.specs.Layout.{lay}
-use Rattle.page_packer.specs.Reading.{entry_of, AreThese}
+use Rattle.page_packer.specs.Reading.{entry_of_path, AreThese}
 use Rattle.page_packer.proofs.Grown.{same_entries}
 use Rattle.page_packer.proofs.Reading.{Means, MeansUnder, root_means}
 
@@ -23,20 +23,20 @@ only_children go at [] = refl
 only_children go at (None ∷ places) = only_children go at places
 only_children go at (Some c ∷ places) = ap (both (under c.byte (go (at - c.distance)))) (only_children go at places)
 
-both_these : (r s : Paths) (es fs : List Entry) → AreThese r es → AreThese s fs → AreThese (both r s) (es ++ fs)
+both_these : (r s : Paths) (es fs : List TrieEntry) → AreThese r es → AreThese s fs → AreThese (both r s) (es ++ fs)
 both_these (Err w) s es fs h k = absurd h
 both_these (Ok ps) (Err w) es fs h k = absurd k
-both_these (Ok ps) (Ok qs) es fs h k = map-append entry_of ps qs ∙ ap (λ x. x ++ map entry_of qs) h ∙ ap (λ x. es ++ x) k
+both_these (Ok ps) (Ok qs) es fs h k = map-append entry_of_path ps qs ∙ ap (λ x. x ++ map entry_of_path qs) h ∙ ap (λ x. es ++ x) k
 
-longer_these : (b : ℕ) (ps : List Path) → map entry_of (map (longer b) ps) ≡ map (below b) (map entry_of ps)
+longer_these : (b : ℕ) (ps : List Path) → map entry_of_path (map (longer b) ps) ≡ map (below b) (map entry_of_path ps)
 longer_these b [] = refl
-longer_these b (p ∷ ps) = ap (λ x. below b (entry_of p) ∷ x) (longer_these b ps)
+longer_these b (p ∷ ps) = ap (λ x. below b (entry_of_path p) ∷ x) (longer_these b ps)
 
-under_these : (b : ℕ) (r : Paths) (es : List Entry) → AreThese r es → AreThese (under b r) (map (below b) es)
+under_these : (b : ℕ) (r : Paths) (es : List TrieEntry) → AreThese r es → AreThese (under b r) (map (below b) es)
 under_these b (Err w) es h = absurd h
 under_these b (Ok ps) es h = longer_these b ps ∙ ap (map (below b)) h
 
-own_these : (at : ℕ) (q : List ℕ) → map entry_of (trie.own at q) ≡ own q
+own_these : (at : ℕ) (q : List ℕ) → map entry_of_path (trie.own at q) ≡ own q
 own_these at [] = refl
 own_these at (x ∷ xs) = refl
 
@@ -63,9 +63,9 @@ mutual
       (under_these c.byte (paths_by fuel file (at - c.distance)) (entries_of t) (paths_these t file (at - c.distance) fuel (omega (arith, f, h.1, h.2)) h.3)))
       (children_these bs cs file at fuel f h.4)
 
-pub layout_means : (es : List Entry) (front rest : List ℕ) → AreEntries es → 0 < length es → key_bytes es ≤ 2 ^ 30 → AreThese (paths (front ++ ((lay (tree_of es) (length front)).bytes ++ rest)) (lay (tree_of es) (length front)).root) es
+pub layout_means : (es : List TrieEntry) (front rest : List ℕ) → AreEntries es → 0 < length es → key_bytes es ≤ 2 ^ 30 → AreThese (paths (front ++ ((lay (tree_of es) (length front)).bytes ++ rest)) (lay (tree_of es) (length front)).root) es
 unfolding paths
 layout_means es front rest a some few =
     let file = front ++ ((lay (tree_of es) (length front)).bytes ++ rest) in
     let root = (lay (tree_of es) (length front)).root in
-    subst (λ (x : List Entry). AreThese (paths_by (root + 1) file root) x) (same_entries es a) (paths_these (tree_of es) file root (root + 1) (omega arith) (root_means es front rest a some few))
+    subst (λ (x : List TrieEntry). AreThese (paths_by (root + 1) file root) x) (same_entries es a) (paths_these (tree_of es) file root (root + 1) (omega arith) (root_means es front rest a some few))

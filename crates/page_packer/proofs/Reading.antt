@@ -14,7 +14,7 @@ use Rattle.bti_nodes.specs.Laws.{standing}
 use Rattle.bti_nodes.specs.Spelling.{Parts, IsNode, distance_of, zeros}
 use Rattle.bti_nodes.proofs.RoundTrip.{round_trip}
 use Rattle.page_packer.specs.declared.work.Stood.{Stood}
-use Rattle.page_packer.specs.Tree.{Tree, Branches, tree, end, branch, Entry, AscendFrom, AreEntries, key_bytes, with_key, grown, tree_of, weight, weights}
+use Rattle.page_packer.specs.Tree.{Tree, Branches, tree, end, branch, TrieEntry, AscendFrom, AreEntries, key_bytes, with_key, grown, tree_of, weight, weights}
 use Rattle.page_packer.specs.Sound.{Ascend, IsFull, Sound, SoundUnder, count, counts}
 use Rattle.page_packer.specs.Layout.{Laid, lay, lay_under, packed, packed_under, light, gap, node_at_place, seen_from}
 use Rattle.page_packer.proofs.Grown.{last_of, key_sound, sound_tree}
@@ -168,18 +168,18 @@ mutual
         lay_under_means bs next at file (front ++ first.bytes) rest (omega (arith, e, length-append front first.bytes)) (moved_on file front first.bytes others.bytes rest f) s.2 (omega arith) (omega (arith, len, m)),
       )
 
-grown_full : (es : List Entry) (t : Tree) → Sound t → AscendFrom (last_of t) es → IsFull t → IsFull (grown t es)
+grown_full : (es : List TrieEntry) (t : Tree) → Sound t → AscendFrom (last_of t) es → IsFull t → IsFull (grown t es)
 grown_full [] t s a h = h
 grown_full (e ∷ es) t s a h =
     let r = key_sound t e.key e.payload s a.1.bytes a.1.paid a.1.short a.0 in
     grown_full es (with_key t e.key e.payload) r.0 (subst (λ k. AscendFrom k es) (sym r.2) a.2) r.1
 
-pub tree_full : (es : List Entry) → AreEntries es → 0 < length es → IsFull (tree_of es)
+pub tree_full : (es : List TrieEntry) → AreEntries es → 0 < length es → IsFull (tree_of es)
 tree_full [] a h = absurd (omega arith)
 tree_full (e ∷ es) a h =
     let r = key_sound (tree [] end) e.key e.payload (omega arith, tt, tt) a.1.bytes a.1.paid a.1.short a.0 in
     grown_full es (with_key (tree [] end) e.key e.payload) r.0 (subst (λ k. AscendFrom k es) (sym r.2) a.2) r.1
 
-pub root_means : (es : List Entry) (front rest : List ℕ) → AreEntries es → 0 < length es → key_bytes es ≤ 2 ^ 30 → Means (front ++ ((lay (tree_of es) (length front)).bytes ++ rest)) (lay (tree_of es) (length front)).root (tree_of es)
+pub root_means : (es : List TrieEntry) (front rest : List ℕ) → AreEntries es → 0 < length es → key_bytes es ≤ 2 ^ 30 → Means (front ++ ((lay (tree_of es) (length front)).bytes ++ rest)) (lay (tree_of es) (length front)).root (tree_of es)
 root_means es front rest a some few =
     lay_means (tree_of es) (length front) (front ++ ((lay (tree_of es) (length front)).bytes ++ rest)) front rest refl refl (sound_tree es a) (tree_full es a some) (omega (arith, tree_count es, few))

@@ -3,7 +3,7 @@ use Rattle.std.proofs.Common.{◌≡◌, ℕ, ◌+◌, Bool, true, false, List, 
 use Rattle.std.specs.Prelude.{if◌then◌else◌}
 use Rattle.std.specs.List.{AllByRecursion}
 use Rattle.bti_nodes.specs.Spelling.{zeros}
-use Rattle.page_packer.specs.Tree.{Tree, Branches, tree, end, branch, Entry, weight, tree_of}
+use Rattle.page_packer.specs.Tree.{Tree, Branches, tree, end, branch, TrieEntry, weight, tree_of}
 use Rattle.page_packer.specs.Layout.{Laid, lay, lay_under, packed, packed_under, light, gap, node_at_place}
 use Rattle.page_packer.specs.Pages.{Span, StandsIn, SpansIn, packed_nodes, packed_nodes_under, packed_subtrees, packed_subtrees_under, laid_nodes, laid_nodes_under, light_subtrees, light_subtrees_under}
 use Rattle.page_packer.proofs.Length.{zeros_len}
@@ -87,7 +87,7 @@ mutual
         both file (light_subtrees t p) (light_subtrees_under bs next) one.1 more.1,
       )
 
-pub spans_stand : (es : List Entry) (front rest : List ℕ) → SpansIn es front rest
+pub spans_stand : (es : List TrieEntry) (front rest : List ℕ) → SpansIn es front rest
 spans_stand es front rest =
     let stand = laid_stand (tree_of es) (length front) (front ++ ((lay (tree_of es) (length front)).bytes ++ rest)) front rest refl refl in
     record { nodes = stand.0; subtrees = stand.1 }

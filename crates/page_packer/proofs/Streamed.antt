@@ -5,7 +5,7 @@ use Rattle.std.proofs.lemmas.Bool.Decides.{nat_tests}
 use Rattle.std.specs.List.{AllByRecursion}
 use Rattle.page_packer.specs.declared.edge.Level.{Level}
 use Rattle.page_packer.specs.declared.work.Stood.{Stood}
-use Rattle.page_packer.specs.Tree.{Tree, Branches, tree, end, branch, Entry, AreEntries, IsBelow, last_key, tree_of, weight}
+use Rattle.page_packer.specs.Tree.{Tree, Branches, tree, end, branch, TrieEntry, AreEntries, IsBelow, last_key, tree_of, weight}
 use Rattle.page_packer.specs.Sound.{IsFull, Sound, SoundUnder, count, counts}
 use Rattle.page_packer.specs.Layout.{Laid, lay, light}
 use Rattle.page_packer.specs.Early.{early, early_under, early_of}
@@ -119,7 +119,7 @@ pub record Ready (p : Frontier) (ls : List Level) (t : Tree) : Type 0 where
   pub room : length (closes (edge_over ls (whole t)) p.end_).bytes ≤ 32 * (2 ^ 30 + 1)
   pub near : p.end_ ≤ p.start + 32 * (2 ^ 30 + 1)
 
-pub ready : (p : Frontier) (es : List Entry) (ls : List Level) (t : Tree) → Reached p es → p.edge ≡ edge_over ls (whole t) → Ready p ls t
+pub ready : (p : Frontier) (es : List TrieEntry) (ls : List Level) (t : Tree) → Reached p es → p.edge ≡ edge_over ls (whole t) → Ready p ls t
 ready p es ls t h e =
     let all = tree_of es in
     let s = sound_tree es h.entries in
@@ -141,7 +141,7 @@ ready p es ls t h e =
     }
 
 -- a packing with the last key of its edge
-pub last_is : (p : Frontier) (es : List Entry) (ls : List Level) (t : Tree) → AreEntries es → p.edge ≡ left (tree_of es) p.start → p.edge ≡ edge_over ls (whole t) → last_over ls t ≡ last_key es
+pub last_is : (p : Frontier) (es : List TrieEntry) (ls : List Level) (t : Tree) → AreEntries es → p.edge ≡ left (tree_of es) p.start → p.edge ≡ edge_over ls (whole t) → last_over ls t ≡ last_key es
 last_is p es ls t a h e =
     sym (over_last ls t) ∙ ap last_edge (sym e ∙ h) ∙ last_left (tree_of es) p.start ∙ (grown_sound es (tree [] end) (omega arith, tt, tt) a).1
 
@@ -153,7 +153,7 @@ empty_light p =
     (pick (light t) [] (early_under end p) s, pick (light t) (whole t) (left_under [] [] end p) s)
 
 -- the packing with one key more, as it is held
-pub next_packs : (p q : Frontier) (es : List Entry) (key v : List ℕ) (ls : List Level) (t : Tree) → Reached p es → IsBelow p.last key → AllByRecursion (λ b. b < 256) key → 0 < length v → length v ≤ 7 → p.bytes + length key ≤ 2 ^ 30
+pub next_packs : (p q : Frontier) (es : List TrieEntry) (key v : List ℕ) (ls : List Level) (t : Tree) → Reached p es → IsBelow p.last key → AllByRecursion (λ b. b < 256) key → 0 < length v → length v ≤ 7 → p.bytes + length key ≤ 2 ^ 30
     → q.start ≡ p.start → q.edge ≡ (more_of p key v).edge → q.end_ ≡ p.end_ + length (more_of p key v).bytes → q.bytes ≡ p.bytes + length key → q.edge ≡ edge_over ls (whole t) → q.last ≡ last_over ls t → Reached q (with_one es key v)
 next_packs p q es key v ls t h below bytes paid short few start edge end_ many is last =
     let all = with_one es key v in
@@ -180,17 +180,17 @@ new_packs p t edge end_ bytes last =
       last = last;
     }
 
-pub ready_full : (p : Frontier) (es : List Entry) (ls : List Level) (t : Tree) → Reached p es → 0 < length es → p.edge ≡ edge_over ls (whole t) → IsFull t
+pub ready_full : (p : Frontier) (es : List TrieEntry) (ls : List Level) (t : Tree) → Reached p es → 0 < length es → p.edge ≡ edge_over ls (whole t) → IsFull t
 ready_full p es ls t h some e =
     full_over ls t (subst FullIn (sym h.edge ∙ e) (full_left (tree_of es) p.start (sound_tree es h.entries) (tree_full es h.entries some)))
 
 -- what closes a frontier ends the layout of a packing that reached it
-pub record Ends (f : Frontier) (es : List Entry) (start : ℕ) : Type 0 where
+pub record Ends (f : Frontier) (es : List TrieEntry) (start : ℕ) : Type 0 where
   pub root : (lay (tree_of es) start).root ≡ (closes f.edge f.end_).root
   pub bytes : (closes f.edge f.end_).bytes ≡ drop (length (early_of es start)) (lay (tree_of es) start).bytes
   pub long : start + length (lay (tree_of es) start).bytes ≡ f.end_ + length (closes f.edge f.end_).bytes
 
-pub ends : (f : Frontier) (es : List Entry) (start : ℕ) → Reached f es → f.start ≡ start → Ends f es start
+pub ends : (f : Frontier) (es : List TrieEntry) (start : ℕ) → Reached f es → f.start ≡ start → Ends f es start
 ends f es start h e =
     let all = frontier_closes f es h in
     let front = early_of es f.start in

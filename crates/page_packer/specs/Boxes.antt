@@ -18,8 +18,8 @@ branches_of End = end
 branches_of (Last' p byte weight so_far payload children before) = and_last (branches_of before) byte (tree (bytes_in payload) (branches_of children))
 
 -- the node in a box
-abbrev pub node_in : Branch → Tree
-node_in b = tree (bytes_in b.payload) (branches_of b.children)
+abbrev pub node_in_box : Branch → Tree
+node_in_box b = tree (bytes_in b.payload) (branches_of b.children)
 
 -- the branches with one key more
 abbrev pub with_path : Branches → List ℕ → List ℕ → Branches

@@ -2,7 +2,7 @@
 use Rattle.std.specs.Prelude.{◌≡◌, ◌≤◌, ◌^◌, ℕ, ◌+◌, ◌==◌, List, [], ◌∷◌, ◌++◌, length, if◌then◌else◌}
 use Rattle.outside.specs.declared.store.FileId.{FileId}
 use Rattle.page_packer.specs.declared.work.Stood.{Stood}
-use Rattle.page_packer.specs.Tree.{Tree, Branches, tree, end, branch, Entry, AreEntries, key_bytes, last_key, tree_of, path, with_key}
+use Rattle.page_packer.specs.Tree.{Tree, Branches, tree, end, branch, TrieEntry, AreEntries, key_bytes, last_key, tree_of, path, with_key}
 use Rattle.page_packer.specs.Layout.{Laid, LaidUnder, lay, light, closed_in_page}
 use Rattle.page_packer.specs.Early.{early}
 
@@ -50,8 +50,8 @@ pub record Grown : Type 0 where
   pub bytes : List ℕ
   pub edge : Edge
 
-abbrev pub onto : List ℕ → List Stood → ℕ → Grown → Grown
-onto q done b g = record { bytes = g.bytes; edge = above q done b g.edge }
+abbrev pub put_onto : List ℕ → List Stood → ℕ → Grown → Grown
+put_onto q done b g = record { bytes = g.bytes; edge = above q done b g.edge }
 
 abbrev pub begun : Tree → ℕ → Grown
 begun t p = record { bytes = early t p; edge = left t p }
@@ -63,11 +63,11 @@ beside_last laid g = record { bytes = laid.bytes ++ g.bytes; edge = g.edge }
 abbrev pub with_more : Edge → List ℕ → List ℕ → ℕ → Grown
 with_more (whole t) key v p = begun (with_key t key v) p
 with_more (bare q done) [] v p = record { bytes = []; edge = bare v done }
-with_more (bare q done) (b ∷ rest) v p = onto q done b (begun (path rest v) p)
+with_more (bare q done) (b ∷ rest) v p = put_onto q done b (begun (path rest v) p)
 with_more (above q done c edge) [] v p = record { bytes = []; edge = above v done c edge }
 with_more (above q done c edge) (b ∷ rest) v p =
-    if c == b then onto q done c (with_more edge rest v p)
-    else (let last = closes edge p in beside_last last (onto q (and_stood done c last.root) b (begun (path rest v) (p + length last.bytes))))
+    if c == b then put_onto q done c (with_more edge rest v p)
+    else (let last = closes edge p in beside_last last (put_onto q (and_stood done c last.root) b (begun (path rest v) (p + length last.bytes))))
 
 -- what is left of ascending keys, and how much was appended
 pub record Frontier : Type 0 where
@@ -79,7 +79,7 @@ pub record Frontier : Type 0 where
   pub edge : Edge
 
 -- The packer got these entries: a relation, since the packer holds no more than what is left of them.
-pub record Reached (p : Frontier) (es : List Entry) : Type 0 where
+pub record Reached (p : Frontier) (es : List TrieEntry) : Type 0 where
   pub entries : AreEntries es
   pub few : key_bytes es ≤ 2 ^ 30
   pub edge : p.edge ≡ left (tree_of es) p.start
@@ -87,7 +87,7 @@ pub record Reached (p : Frontier) (es : List Entry) : Type 0 where
   pub bytes : p.bytes ≡ key_bytes es
   pub last : p.last ≡ last_key es
 
-abbrev pub with_one : List Entry → List ℕ → List ℕ → List Entry
+abbrev pub with_one : List TrieEntry → List ℕ → List ℕ → List TrieEntry
 with_one es key v = es ++ record { key = key; payload = v } ∷ []
 
 -- a packer with one key more, on what it holds alone

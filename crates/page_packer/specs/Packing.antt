@@ -2,7 +2,7 @@
 use Rattle.std.specs.Prelude.{◌≡◌, ◌∷◌, [], ◌++◌, ℕ, List, Option, Result, length, drop}
 use Rattle.outside.specs.Files.{Files, Appends}
 use Rattle.outside.specs.declared.store.FileId.{FileId}
-use Rattle.page_packer.specs.Tree.{Entry, AreEntries, tree_of}
+use Rattle.page_packer.specs.Tree.{TrieEntry, AreEntries, tree_of}
 use Rattle.page_packer.specs.Layout.{Laid, lay}
 use Rattle.page_packer.specs.Early.{early_of, early_more}
 
@@ -10,7 +10,7 @@ use Rattle.page_packer.specs.Early.{early_of, early_more}
 pub record Packing : Type 0 where
   pub file : FileId
   pub start : ℕ
-  pub entries : List Entry
+  pub entries : List TrieEntry
 
 -- a packing without entries
 abbrev pub nothing_packed : FileId → ℕ → Packing
@@ -29,8 +29,8 @@ abbrev pub early_bytes : Packing → List ℕ
 early_bytes p = early_of p.entries p.start
 
 -- what is appended for one entry more, behind what was appended early
-abbrev pub bytes_for : Packing → List ℕ → List ℕ → List ℕ
-bytes_for p key payload = early_more p.entries (record { key = key; payload = payload } ∷ []) p.start
+abbrev pub packing_bytes_for : Packing → List ℕ → List ℕ → List ℕ
+packing_bytes_for p key payload = early_more p.entries (record { key = key; payload = payload } ∷ []) p.start
 
 -- Where there are bytes they are appended, and where there are none no call is made.
 abbrev pub AppendsSome : {T E : Type 0} → Option Files → Option Files → FileId → Result T E → List ℕ → Type 0

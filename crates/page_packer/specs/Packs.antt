@@ -6,7 +6,7 @@ use Rattle.page_packer.specs.Tree.{IsBelow, last_key, key_bytes}
 use Rattle.page_packer.specs.Edge.{Frontier, Reached, whole}
 use Rattle.page_packer.specs.Boxes.{IsWeighed}
 use Rattle.page_packer.specs.Levels.{tree_in, edge_over, last_over}
-use Rattle.page_packer.specs.Packing.{Packing, AppendsSome, with_entry, bytes_for}
+use Rattle.page_packer.specs.Packing.{Packing, AppendsSome, with_entry, packing_bytes_for}
 
 -- what a packer holds
 abbrev pub frontier_of : Packer → Frontier
@@ -47,4 +47,4 @@ pub record HasEntries (s : Packer) : Type 0 where
 -- bytes, and after an error a prefix of it.
 pub record AddsEntry (old new : Packer) (before after : Option Files) {T E : Type 0} (result : Result T E) (key payload : List ℕ) : Type 0 where
   pub packs : OnOk result ((p : Packing) → Packs old p → Packs new (with_entry p key payload))
-  pub appends : (p : Packing) → Packs old p → AppendsSome before after p.file result (bytes_for p key payload)
+  pub appends : (p : Packing) → Packs old p → AppendsSome before after p.file result (packing_bytes_for p key payload)

@@ -1,7 +1,7 @@
 -- The page laws: where the nodes and the subtrees of a layout stand.
 use Rattle.std.specs.Prelude.{◌≡◌, ◌≤◌, ℕ, ◌+◌, ◌%◌, List, [], ◌∷◌, ◌++◌, length, if◌then◌else◌}
 use Rattle.std.specs.List.{AllByRecursion}
-use Rattle.page_packer.specs.Tree.{Tree, Branches, tree, end, branch, weight, Entry, AreEntries, tree_of}
+use Rattle.page_packer.specs.Tree.{Tree, Branches, tree, end, branch, weight, TrieEntry, AreEntries, tree_of}
 use Rattle.page_packer.specs.Layout.{lay, lay_under, packed, packed_under, light, gap, node_at_place}
 
 -- some bytes, and the position at which they stand
@@ -67,16 +67,16 @@ SubtreesInPages = (t : Tree) (p : ℕ) → AllByRecursion InPage (light_subtrees
 
 -- no node crosses a page
 abbrev pub NodesInPages : Type 0
-NodesInPages = (es : List Entry) (p : ℕ) → AreEntries es → AllByRecursion InPage (laid_nodes (tree_of es) p)
+NodesInPages = (es : List TrieEntry) (p : ℕ) → AreEntries es → AllByRecursion InPage (laid_nodes (tree_of es) p)
 
 -- a file has the bytes at their position
 abbrev pub StandsIn : List ℕ → Span → Type 0
 StandsIn file s = (front rest : List ℕ) × (file ≡ front ++ (s.bytes ++ rest)) × (length front ≡ s.start)
 
 -- Wherever a layout stands in a file at its start, the file has each node and each light subtree at its span.
-pub record SpansIn (es : List Entry) (front rest : List ℕ) : Type 0 where
+pub record SpansIn (es : List TrieEntry) (front rest : List ℕ) : Type 0 where
   pub nodes : AllByRecursion (StandsIn (front ++ ((lay (tree_of es) (length front)).bytes ++ rest))) (laid_nodes (tree_of es) (length front))
   pub subtrees : AllByRecursion (StandsIn (front ++ ((lay (tree_of es) (length front)).bytes ++ rest))) (light_subtrees (tree_of es) (length front))
 
 abbrev pub SpansStand : Type 0
-SpansStand = (es : List Entry) (front rest : List ℕ) → SpansIn es front rest
+SpansStand = (es : List TrieEntry) (front rest : List ℕ) → SpansIn es front rest

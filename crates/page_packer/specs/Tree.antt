@@ -17,7 +17,7 @@ mutual
     branch : ℕ → Tree → Branches → Branches
 
 -- a key with its payload
-pub record Entry : Type 0 where
+pub record TrieEntry : Type 0 where
   pub key : List ℕ
   pub payload : List ℕ
 
@@ -26,30 +26,30 @@ abbrev pub IsBelow : List ℕ → List ℕ → Type 0
 IsBelow a b = slice_cmp nat_cmp a b ≡ Less
 
 -- what may be an entry: bytes, and a payload of one to seven bytes
-pub record IsEntry (e : Entry) : Type 0 where
+pub record IsEntry (e : TrieEntry) : Type 0 where
   pub bytes : AllByRecursion (λ b. b < 256) e.key
   pub paid : 0 < length e.payload
   pub short : length e.payload ≤ 7
 
 -- the keys ascend, from above a key on
-abbrev pub AscendFrom : List ℕ → List Entry → Type 0
+abbrev pub AscendFrom : List ℕ → List TrieEntry → Type 0
 AscendFrom last [] = Unit {0}
 AscendFrom last (e ∷ es) = IsBelow last e.key × IsEntry e × AscendFrom e.key es
 
 -- a list of entries whose keys ascend; none of them is empty
-abbrev pub AreEntries : List Entry → Type 0
+abbrev pub AreEntries : List TrieEntry → Type 0
 AreEntries es = AscendFrom [] es
 
 -- the last key, empty where there is none
-abbrev pub key_after : List ℕ → List Entry → List ℕ
+abbrev pub key_after : List ℕ → List TrieEntry → List ℕ
 key_after last [] = last
 key_after last (e ∷ es) = key_after e.key es
 
-abbrev pub last_key : List Entry → List ℕ
+abbrev pub last_key : List TrieEntry → List ℕ
 last_key es = key_after [] es
 
 -- how many bytes the keys have together
-abbrev pub key_bytes : List Entry → ℕ
+abbrev pub key_bytes : List TrieEntry → ℕ
 key_bytes [] = 0
 key_bytes (e ∷ es) = length e.key + key_bytes es
 
@@ -70,32 +70,32 @@ abbrev mutual
   with_branch (branch c t end) b rest p = if c == b then branch c (with_key t rest p) end else branch c t (branch b (path rest p) end)
   with_branch (branch c t (branch d u bs)) b rest p = branch c t (with_branch (branch d u bs) b rest p)
 
-abbrev pub grown : Tree → List Entry → Tree
+abbrev pub grown : Tree → List TrieEntry → Tree
 grown t [] = t
 grown t (e ∷ es) = grown (with_key t e.key e.payload) es
 
-abbrev pub tree_of : List Entry → Tree
+abbrev pub tree_of : List TrieEntry → Tree
 tree_of es = grown (tree [] end) es
 
 -- the entries of a tree, by ascending key
-abbrev pub below : ℕ → Entry → Entry
+abbrev pub below : ℕ → TrieEntry → TrieEntry
 below b e = record { key = b ∷ e.key; payload = e.payload }
 
-abbrev pub own : List ℕ → List Entry
+abbrev pub own : List ℕ → List TrieEntry
 own [] = []
 own (x ∷ xs) = record { key = []; payload = x ∷ xs } ∷ []
 
 abbrev mutual
-  pub entries_of : Tree → List Entry
+  pub entries_of : Tree → List TrieEntry
   entries_of (tree q bs) = own q ++ entries_under bs
 
-  pub entries_under : Branches → List Entry
+  pub entries_under : Branches → List TrieEntry
   entries_under end = []
   entries_under (branch b t bs) = map (below b) (entries_of t) ++ entries_under bs
 
 -- the tree of ascending keys has exactly these entries, in their order
 abbrev pub TreeIsEntries : Type 0
-TreeIsEntries = (es : List Entry) → AreEntries es → entries_of (tree_of es) ≡ es
+TreeIsEntries = (es : List TrieEntry) → AreEntries es → entries_of (tree_of es) ≡ es
 
 abbrev pub letters : Branches → List ℕ
 letters end = []

@@ -1,5 +1,5 @@
 //! What holds of the layout of every list of ascending keys.
-ghost use Rattle.page_packer.specs.Vectors.{AreVectors};
+ghost use Rattle.page_packer.specs.Vectors.{AreLayoutVectors};
 ghost use Rattle.page_packer.specs.Length.{LengthBound};
 ghost use Rattle.page_packer.specs.Tree.{TreeIsEntries};
 ghost use Rattle.page_packer.specs.Early.{EarlyStands, EarlyGrows, WeightGrows, LaidInParts};
@@ -11,7 +11,7 @@ ghost use Rattle.page_packer.specs.Pages.{SubtreesInPages, NodesInPages, SpansSt
 
 /// Layouts of the worked rows.
 pub fn law_vectors()
-    ensures { AreVectors }
+    ensures { AreLayoutVectors }
 {}
 
 /// The tree of ascending keys has exactly these keys, each with its payload, in their order.

@@ -5,7 +5,7 @@ ghost use Rattle.bti_nodes.specs.Spelling.{IsNode};
 ghost use Rattle.page_packer.specs.Tree.{weight};
 ghost use Rattle.page_packer.specs.Layout.{gap, lay, lay_under, seen_from, node_at_place};
 ghost use Rattle.page_packer.specs.Sound.{Sound, IsFull};
-ghost use Rattle.page_packer.specs.Boxes.{branches_of, node_in, count_in, IsWeighed, IsSoundLink};
+ghost use Rattle.page_packer.specs.Boxes.{branches_of, node_in_box, count_in, IsWeighed, IsSoundLink};
 ghost use Rattle.page_packer.specs.Work.{Adds, AddsOne, closed_alone};
 
 use crate::boxes::{Branch, Link, payload_bytes};
@@ -30,12 +30,12 @@ fn gap(position: u64, size: usize) -> usize
 
 /// Appends a light subtree, which goes into the next page where it would cross into it.
 fn lay_light(branch: &Branch, start: u64, work: &mut Work) -> Result<(), NoMemory>
-    requires sound { Sound (node_in branch.now) }
-    requires full { IsFull (node_in branch.now) }
+    requires sound { Sound (node_in_box branch.now) }
+    requires full { IsFull (node_in_box branch.now) }
     requires light { branch.now.weight ≤ 4096 }
-    requires weight { branch.now.weight ≡ weight (node_in branch.now) }
+    requires weight { branch.now.weight ≡ weight (node_in_box branch.now) }
     requires room { start + length work.old.out < 2 ^ 61 }
-    ensures { OnOk result (AddsOne work.old work.new branch.now.byte (lay (node_in branch.now) (start + length work.old.out))) }
+    ensures { OnOk result (AddsOne work.old work.new branch.now.byte (lay (node_in_box branch.now) (start + length work.old.out))) }
 {
     let filled = start + work.out.len() as u64;
     put_zeros(gap(filled, usize::from(branch.weight)), &mut work.out)?;

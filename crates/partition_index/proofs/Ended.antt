@@ -8,7 +8,7 @@ use Rattle.outside.specs.declared.store.FileId.{FileId}
 use Rattle.outside.proofs.Sets.{appended_as, appended_behind, failed_before, nothing_appended}
 use Rattle.bti_nodes.specs.Payloads.{signed_bytes}
 use Rattle.page_packer.specs.Tree.{AreEntries}
-use Rattle.page_packer.specs.Packing.{AppendsSome, Packing, bytes_for, early_bytes, laid, last_bytes}
+use Rattle.page_packer.specs.Packing.{AppendsSome, Packing, packing_bytes_for, early_bytes, laid, last_bytes}
 use Rattle.page_packer.proofs.Early.{list_grows, packing_ends, prefix_is}
 use Rattle.page_packer.proofs.Streamed.{empty_light}
 use Rattle.partition_index.specs.declared.newest.Newest.{Newest}
@@ -42,7 +42,7 @@ some_failed old new file r s (c ∷ a) b bad worse p = failed_before old new fil
 
 pub trie_whole : (newest : Newest) (file : FileId) (p : Numbered) (ps : List Numbered) → IsNewest newest (p ∷ ps) → 0 < newest.count → StandApart (p ∷ ps)
     → (index_trie (p ∷ ps)).bytes ≡ early_index (p ∷ ps)
-    ++ (bytes_for (settled_packing (record { file = file; partitions = p ∷ ps })) (entry_between (string_before newest) (last_in newest) None).key (signed_bytes newest.number)
+    ++ (packing_bytes_for (settled_packing (record { file = file; partitions = p ∷ ps })) (entry_between (string_before newest) (last_in newest) None).key (signed_bytes newest.number)
     ++ last_bytes (packed_with newest file (p ∷ ps) None))
 trie_whole newest file p ps h some fine =
     let packed = packed_with newest file (p ∷ ps) None in
@@ -51,13 +51,13 @@ trie_whole newest file p ps h some fine =
     let e = entry_between (string_before newest) (last_in newest) None in
     let early = early_index (p ∷ ps) in
     let grows = prefix_is early (early_bytes packed) (list_grows (settled (p ∷ ps)) (e ∷ []) 0 all) in
-    let here = bytes_for (settled_packing (record { file = file; partitions = p ∷ ps })) e.key (signed_bytes newest.number) in
+    let here = packing_bytes_for (settled_packing (record { file = file; partitions = p ∷ ps })) e.key (signed_bytes newest.number) in
     ap (λ (q : Packing). (laid q).bytes) (sym is) ∙ packing_ends packed all ∙ ap (λ (bytes : List ℕ). bytes ++ last_bytes packed) grows
     ∙ append_assoc early here (last_bytes packed)
 
 ended : (newest : Newest) (file : FileId) (p : Numbered) (ps : List Numbered) → IsNewest newest (p ∷ ps) → 0 < newest.count → StandApart (p ∷ ps)
     → drop (length (early_index (p ∷ ps))) (index_trie (p ∷ ps)).bytes
-    ≡ bytes_for (settled_packing (record { file = file; partitions = p ∷ ps })) (entry_between (string_before newest) (last_in newest) None).key (signed_bytes newest.number)
+    ≡ packing_bytes_for (settled_packing (record { file = file; partitions = p ∷ ps })) (entry_between (string_before newest) (last_in newest) None).key (signed_bytes newest.number)
     ++ last_bytes (packed_with newest file (p ∷ ps) None)
 ended newest file p ps h some fine =
     ap (λ (bytes : List ℕ). drop (length (early_index (p ∷ ps))) bytes) (trie_whole newest file p ps h some fine) ∙ drop-append_seam (early_index (p ∷ ps)) _
@@ -79,7 +79,7 @@ if_ok (Err e) P Q f p q = tt
 pub trie_appended : (E : Type 0) {T R G : Type 0} (old mid new : Option Files) (newest : Newest) (file : FileId) (ps : List Numbered) (first : T) (r : Result R G)
     → IsNewest newest ps → 0 < newest.count → AreNumbered ps
     → AppendsSome {E = E} old mid file (Ok first)
-    (bytes_for (settled_packing (record { file = file; partitions = ps })) (entry_between (string_before newest) (last_in newest) None).key (signed_bytes newest.number))
+    (packing_bytes_for (settled_packing (record { file = file; partitions = ps })) (entry_between (string_before newest) (last_in newest) None).key (signed_bytes newest.number))
     → Appends mid new file r (last_bytes (packed_with newest file ps None)) → AppendsTrie old new file r ps
 trie_appended E old mid new newest file [] x r h some fine p q = absurd (omega (arith, h.0, some))
 trie_appended E old mid new newest file (k ∷ ps) x r h some fine p q =
@@ -89,7 +89,7 @@ trie_appended E old mid new newest file (k ∷ ps) x r h some fine p q =
 pub trie_failed : {T R E G : Type 0} (old new : Option Files) (newest : Newest) (file : FileId) (ps : List Numbered) (inner : Result T E) (outer : Result R G)
     → IsNewest newest ps → 0 < newest.count → AreNumbered ps → IsErr inner → IsErr outer
     → AppendsSome old new file inner
-    (bytes_for (settled_packing (record { file = file; partitions = ps })) (entry_between (string_before newest) (last_in newest) None).key (signed_bytes newest.number))
+    (packing_bytes_for (settled_packing (record { file = file; partitions = ps })) (entry_between (string_before newest) (last_in newest) None).key (signed_bytes newest.number))
     → AppendsTrie old new file outer ps
 trie_failed old new newest file [] r s h some fine bad worse p = absurd (omega (arith, h.0, some))
 trie_failed old new newest file (k ∷ ps) r s h some fine bad worse p =

@@ -4,7 +4,7 @@ use Rattle.std.proofs.lemmas.List.{length-append}
 use Rattle.std.specs.Prelude.{if◌then◌else◌, ◌==◌}
 use Rattle.byteorder.specs.Numbers.{length-bytes_high_first}
 use Rattle.length_prefix.specs.Counted.{counted}
-use Rattle.page_packer.specs.Tree.{AreEntries, Entry, IsBelow, Tree, branch, end, grown, path, tree, tree_of, weight, with_key}
+use Rattle.page_packer.specs.Tree.{AreEntries, TrieEntry, IsBelow, Tree, branch, end, grown, path, tree, tree_of, weight, with_key}
 use Rattle.page_packer.specs.Layout.{Laid, closed_in_page, gap, lay, lay_under, light, packed, packed_under, shifted}
 use Rattle.page_packer.proofs.Length.{lay_root, length_bound}
 use Rattle.page_packer.proofs.Pages.{root_between}
@@ -30,11 +30,11 @@ key_branches (tree q (branch b t end)) (c ∷ key) v h = by (b == c)
     by false = tt
 key_branches (tree q (branch b t (branch d u bs))) (c ∷ key) v h = tt
 
-keys_branch : (es : List Entry) (t : Tree) → HasBranch t → HasBranch (grown t es)
+keys_branch : (es : List TrieEntry) (t : Tree) → HasBranch t → HasBranch (grown t es)
 keys_branch [] t h = h
 keys_branch (e ∷ es) t h = keys_branch es (with_key t e.key e.payload) (key_branches t e.key e.payload h)
 
-tree_branches : (es : List Entry) → AreEntries es → 0 < length es → HasBranch (tree_of es)
+tree_branches : (es : List TrieEntry) → AreEntries es → 0 < length es → HasBranch (tree_of es)
 tree_branches [] h some = absurd (omega (arith, some))
 tree_branches (e ∷ es) h some = keys_branch es _ (by e.key e.payload h.0)
   where

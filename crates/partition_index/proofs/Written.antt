@@ -8,9 +8,9 @@ use Rattle.byte_order.specs.Laws.{DiffersFrom}
 use Rattle.byte_order.specs.Strings.{Differ, unique_size}
 use Rattle.bti_nodes.specs.Payloads.{signed_bytes}
 use Rattle.page_packer.specs.declared.packer.Packer.{Packer}
-use Rattle.page_packer.specs.Tree.{Entry, IsBelow, key_bytes, last_key}
+use Rattle.page_packer.specs.Tree.{TrieEntry, IsBelow, key_bytes, last_key}
 use Rattle.page_packer.specs.Early.{early_of}
-use Rattle.page_packer.specs.Packing.{Packing, bytes_for, with_entry}
+use Rattle.page_packer.specs.Packing.{Packing, packing_bytes_for, with_entry}
 use Rattle.page_packer.specs.Packs.{Packs, Takes}
 use Rattle.page_packer.proofs.Added.{all_bytes}
 use Rattle.page_packer.proofs.Followed.{pick}
@@ -37,13 +37,13 @@ pub record CanPack (packer : Packer) (newest : Newest) (behind : Option (List �
   pub before : DiffersFrom newest.last (string_before newest)
   pub is : IsNumbered (last_in newest)
 
-can_pack : (packer : Packer) (newest : Newest) (file : FileId) (p : Numbered) (ps : List Numbered) (behind : Option (List ℕ)) (all : List Numbered) (rest : List Entry)
+can_pack : (packer : Packer) (newest : Newest) (file : FileId) (p : Numbered) (ps : List Numbered) (behind : Option (List ℕ)) (all : List Numbered) (rest : List TrieEntry)
     → PacksIndex packer newest (record { file = file; partitions = p ∷ ps }) → AreNumbered all
     → index_entries all ≡ settled (p ∷ ps) ++ entry_between (before_last None p ps) (last_among p ps) behind ∷ rest → CanPack packer newest behind
 can_pack packer newest file p ps behind all rest h fine is =
     let last : last_in newest ≡ last_among p ps = h.newest_is.1 in
     let before : string_before newest ≡ before_last None p ps = h.newest_is.2 in
-    let ours : Numbered → Option (List ℕ) → Entry = λ l b. entry_between b l behind in
+    let ours : Numbered → Option (List ℕ) → TrieEntry = λ l b. entry_between b l behind in
     let same : entry_between (before_last None p ps) (last_among p ps) behind ≡ entry_between (string_before newest) (last_in newest) behind =
     ap (λ (b : Option (List ℕ)). ours (last_among p ps) b) (sym before) ∙ ap (λ (l : Numbered). ours l (string_before newest)) (sym last) in
     let fits = next_fits all (settled (p ∷ ps)) (entry_between (before_last None p ps) (last_among p ps) behind) rest fine is in
@@ -53,18 +53,18 @@ can_pack packer newest file p ps behind all rest h fine is =
       takes = record {
         packing = settled_packing (record { file = file; partitions = p ∷ ps });
         packs = h.packs;
-        above = subst (λ (e : Entry). above_last e) same fits.0;
-        few = subst (λ (e : Entry). few_with e) same fits.1;
+        above = subst (λ (e : TrieEntry). above_last e) same fits.0;
+        few = subst (λ (e : TrieEntry). few_with e) same fits.1;
       };
       some = some_string newest.last part.some;
       before = subst (λ (b : Option (List ℕ)). DiffersFrom newest.last b) (sym before) apart;
       is = part;
     }
   where
-    above_last : Entry → Type 0
+    above_last : TrieEntry → Type 0
     above_last e = IsBelow (last_key (settled (p ∷ ps))) e.key
 
-    few_with : Entry → Type 0
+    few_with : TrieEntry → Type 0
     few_with e = key_bytes (settled (p ∷ ps)) + length e.key ≤ 2 ^ 30
 
 pub next_pack : (packer : Packer) (newest : Newest) (file : FileId) (ps : List Numbered) (n : Numbered) → PacksIndex packer newest (record { file = file; partitions = ps })
@@ -105,20 +105,20 @@ pub packing_next : (newest : Newest) (file : FileId) (ps : List Numbered) (n : N
     → packed_with newest file ps (Some n.string) ≡ settled_packing (record { file = file; partitions = ps ++ n ∷ [] })
 packing_next newest file [] n h some = absurd (omega (arith, h.0, some))
 packing_next newest file (p ∷ ps) n h some =
-    let is = ap (λ (e : Entry). settled (p ∷ ps) ++ e ∷ []) (held_entry newest p ps (Some n.string) h) ∙ sym (settled_more None p ps n) in
-    ap (λ (es : List Entry). packing_of file es) is
+    let is = ap (λ (e : TrieEntry). settled (p ∷ ps) ++ e ∷ []) (held_entry newest p ps (Some n.string) h) ∙ sym (settled_more None p ps n) in
+    ap (λ (es : List TrieEntry). packing_of file es) is
   where
-    packing_of : FileId → List Entry → Packing
+    packing_of : FileId → List TrieEntry → Packing
     packing_of f es = record { file = f; start = 0; entries = es }
 
 pub packing_last : (newest : Newest) (file : FileId) (ps : List Numbered) → IsNewest newest ps → 0 < newest.count
     → packed_with newest file ps None ≡ record { file = file; start = 0; entries = index_entries ps }
 packing_last newest file [] h some = absurd (omega (arith, h.0, some))
 packing_last newest file (p ∷ ps) h some =
-    let is = ap (λ (e : Entry). settled (p ∷ ps) ++ e ∷ []) (held_entry newest p ps None h) ∙ sym (all_settled None p ps) in
-    ap (λ (es : List Entry). packing_of file es) is
+    let is = ap (λ (e : TrieEntry). settled (p ∷ ps) ++ e ∷ []) (held_entry newest p ps None h) ∙ sym (all_settled None p ps) in
+    ap (λ (es : List TrieEntry). packing_of file es) is
   where
-    packing_of : FileId → List Entry → Packing
+    packing_of : FileId → List TrieEntry → Packing
     packing_of f es = record { file = f; start = 0; entries = es }
 
 newest_next : (newest : Newest) (ps : List Numbered) (n : Numbered) → IsNewest newest ps → 0 < newest.count → IsNewest (newest_with newest n.string n.number) (ps ++ n ∷ [])
@@ -162,7 +162,7 @@ next_writes s t w n h some behind is room file first newest packs = record {
 
 -- what packing the last partition appends is what one more appends
 pub appended_next : (newest : Newest) (file : FileId) (ps : List Numbered) (n : Numbered) → IsNewest newest ps → 0 < newest.count
-    → bytes_for (settled_packing (record { file = file; partitions = ps })) (entry_between (string_before newest) (last_in newest) (Some n.string)).key (signed_bytes newest.number) ≡ index_bytes_for ps n
+    → packing_bytes_for (settled_packing (record { file = file; partitions = ps })) (entry_between (string_before newest) (last_in newest) (Some n.string)).key (signed_bytes newest.number) ≡ index_bytes_for ps n
 appended_next newest file ps n h some = ap (λ (p : Packing). drop (length (early_index ps)) (early_of p.entries 0)) (packing_next newest file ps n h some)
 
 -- ---- the call of the packer for the next partition

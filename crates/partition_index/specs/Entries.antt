@@ -6,7 +6,7 @@ use Rattle.std.specs.declared.cmp.Ordering.TheVariants.{Less}
 use Rattle.key_types.specs.Table.{string_cmp}
 use Rattle.byte_order.specs.Strings.{IsPrefix, IsUniqueLength, first_of, unique_size}
 use Rattle.bti_nodes.specs.Payloads.{signed_bytes}
-use Rattle.page_packer.specs.Tree.{Entry}
+use Rattle.page_packer.specs.Tree.{TrieEntry}
 
 -- a partition: its string, and its number, which is the position of its entry in the row index, or the complement of
 -- its position in the data file
@@ -54,14 +54,14 @@ strings_of ps = map (λ (p : Numbered). p.string) ps
 
 -- the entry's key is the shortest prefix of the partition's string that none of the others begins with, and its payload
 -- spells the partition's number
-pub record IsIndexed (p : Numbered) (others : List (List ℕ)) (e : Entry) : Type 0 where
+pub record IsIndexed (p : Numbered) (others : List (List ℕ)) (e : TrieEntry) : Type 0 where
   pub size : ℕ
   pub unique : IsUniqueLength p.string others size
   pub key : e.key ≡ take size p.string
   pub payload : e.payload ≡ signed_bytes p.number
 
 -- one entry for each partition, in order, where some strings stand before the partitions
-abbrev pub AreIndexed : List (List ℕ) → List Numbered → List Entry → Type 0
+abbrev pub AreIndexed : List (List ℕ) → List Numbered → List TrieEntry → Type 0
 AreIndexed before [] [] = Unit {0}
 AreIndexed before [] (e ∷ es) = ⊥
 AreIndexed before (p ∷ ps) [] = ⊥
@@ -69,32 +69,32 @@ AreIndexed before (p ∷ ps) (e ∷ es) =
     IsIndexed p (before ++ strings_of ps) e × AreIndexed (before ++ p.string ∷ []) ps es
 
 -- The entries are the partition index: the keys are unique among all strings of the partitions.
-abbrev pub IsPartitionIndex : List Numbered → List Entry → Type 0
+abbrev pub IsPartitionIndex : List Numbered → List TrieEntry → Type 0
 IsPartitionIndex ps es = AreIndexed [] ps es
 
 -- ---- the same as a function, by neighbours
 
 -- the entry of a partition between two strings
-abbrev pub entry_between : Option (List ℕ) → Numbered → Option (List ℕ) → Entry
+abbrev pub entry_between : Option (List ℕ) → Numbered → Option (List ℕ) → TrieEntry
 entry_between before p behind =
     let size = unique_size before p.string behind in
     record { key = take size p.string; payload = signed_bytes p.number }
 
 -- the entries of partitions behind a string
-abbrev pub index_entries_from : Option (List ℕ) → List Numbered → List Entry
+abbrev pub index_entries_from : Option (List ℕ) → List Numbered → List TrieEntry
 index_entries_from before [] = []
 index_entries_from before (p ∷ ps) = entry_between before p (first_of (strings_of ps)) ∷ index_entries_from (Some p.string) ps
 
-abbrev pub index_entries : List Numbered → List Entry
+abbrev pub index_entries : List Numbered → List TrieEntry
 index_entries ps = index_entries_from None ps
 
 -- those of them that stand whatever partitions follow: all but the last
-abbrev pub settled_from : Option (List ℕ) → List Numbered → List Entry
+abbrev pub settled_from : Option (List ℕ) → List Numbered → List TrieEntry
 settled_from before [] = []
 settled_from before (p ∷ []) = []
 settled_from before (p ∷ q ∷ ps) = entry_between before p (Some q.string) ∷ settled_from (Some p.string) (q ∷ ps)
 
-abbrev pub settled : List Numbered → List Entry
+abbrev pub settled : List Numbered → List TrieEntry
 settled ps = settled_from None ps
 
 -- ---- the ends of a list

@@ -1,7 +1,7 @@
 -- What holds of the index of every list of partitions.
 use Rattle.std.specs.Prelude.{◌≡◌, ◌<◌, ◌≤◌, ◌+◌, ◌^◌, List, [], ◌∷◌, ◌++◌, length}
 use Rattle.bti_nodes.specs.Trie.{paths}
-use Rattle.page_packer.specs.Early.{IsPrefix}
+use Rattle.page_packer.specs.Early.{IsBeginning}
 use Rattle.page_packer.specs.Reading.{AreThese}
 use Rattle.partition_index.specs.Entries.{AreNumbered, IsPartitionIndex, Numbered, index_entries}
 use Rattle.partition_index.specs.File.{early_index, index_trie, last_index_bytes, index_bytes_for, partition_file}
@@ -19,7 +19,7 @@ FileMeansIndex =
 -- What stands early is a prefix of the file of every longer list,
 abbrev pub EarlyIndexStands : Type 0
 EarlyIndexStands =
-    (ps more : List Numbered) → AreNumbered (ps ++ more) → IsPrefix (early_index ps) (partition_file (ps ++ more))
+    (ps more : List Numbered) → AreNumbered (ps ++ more) → IsBeginning (early_index ps) (partition_file (ps ++ more))
 
 -- each partition appends the rest of what stands early with it, and the end appends the rest of the file.
 abbrev pub EarlyIndexGrows : Type 0

@@ -10,7 +10,7 @@ use Rattle.byte_order.specs.Strings.{separator_size}
 use Rattle.bti_nodes.specs.Payloads.{unsigned_bytes}
 use Rattle.page_packer.specs.declared.packer.Packer.{Packer}
 use Rattle.page_packer.specs.Tree.{AreEntries}
-use Rattle.page_packer.specs.Packing.{Packing, bytes_for, laid, last_bytes, nothing_packed, with_entry}
+use Rattle.page_packer.specs.Packing.{Packing, packing_bytes_for, laid, last_bytes, nothing_packed, with_entry}
 use Rattle.page_packer.specs.Packs.{Packs, Takes}
 use Rattle.page_packer.proofs.Added.{all_bytes}
 use Rattle.page_packer.proofs.Heavier.{ascend_parts}
@@ -64,10 +64,10 @@ block_packed w before first offset size payload long spelled =
     ∙ ap (λ (v : List ℕ). with_entry (begun_packing w) (take (separator_size before first) first) v) spelled ∙ packing_with w (block_of before first offset)
 
 pub block_appended : (w : RowIndexing) (before first : List ℕ) (offset size : ℕ) (payload : List ℕ) → size ≡ separator_size before first → payload ≡ unsigned_bytes offset
-    → bytes_for (begun_packing w) (take size first) payload ≡ row_bytes_for w (block_of before first offset)
+    → packing_bytes_for (begun_packing w) (take size first) payload ≡ row_bytes_for w (block_of before first offset)
 block_appended w before first offset size payload long spelled =
-    ap (λ (n : ℕ). bytes_for (begun_packing w) (take n first) payload) long
-    ∙ ap (λ (v : List ℕ). bytes_for (begun_packing w) (take (separator_size before first) first) v) spelled ∙ block_bytes_are w (block_of before first offset)
+    ap (λ (n : ℕ). packing_bytes_for (begun_packing w) (take n first) payload) long
+    ∙ ap (λ (v : List ℕ). packing_bytes_for (begun_packing w) (take (separator_size before first) first) v) spelled ∙ block_bytes_are w (block_of before first offset)
 
 pub next_rows : (s t : RowWriter) (w : RowIndexing) (b : Block) → GoesBehind s w b → IsBlock b → t.file ≡ s.file → t.blocks ≡ s.blocks + 1
     → Packs t.packer (begun_packing (with_block w b)) → WritesRowIndex t (with_block w b)

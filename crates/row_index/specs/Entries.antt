@@ -6,7 +6,7 @@ use Rattle.std.specs.declared.cmp.Ordering.TheVariants.{Less}
 use Rattle.key_types.specs.Table.{string_cmp}
 use Rattle.byte_order.specs.Strings.{IsSeparatorLength, separator_size}
 use Rattle.bti_nodes.specs.Payloads.{unsigned_bytes}
-use Rattle.page_packer.specs.Tree.{Entry}
+use Rattle.page_packer.specs.Tree.{TrieEntry}
 
 -- a block of a partition that is not its first: the clustering string of the row before it and of its first row, and
 -- its offset from the partition's position in the data file
@@ -25,13 +25,13 @@ pub record IsBlock (b : Block) : Type 0 where
   pub few : b.offset < 2 ^ 56
 
 -- the row before the next block isn't below this block's first
-abbrev pub IsBeforeNext : List ℕ → List Block → Type 0
-IsBeforeNext first [] = Unit {0}
-IsBeforeNext first (b ∷ bs) = string_cmp b.before first ≡ Less → ⊥
+abbrev pub IsBeforeNextBlock : List ℕ → List Block → Type 0
+IsBeforeNextBlock first [] = Unit {0}
+IsBeforeNextBlock first (b ∷ bs) = string_cmp b.before first ≡ Less → ⊥
 
 abbrev pub AreBlocks : List Block → Type 0
 AreBlocks [] = Unit {0}
-AreBlocks (b ∷ bs) = IsBlock b × IsBeforeNext b.first bs × AreBlocks bs
+AreBlocks (b ∷ bs) = IsBlock b × IsBeforeNextBlock b.first bs × AreBlocks bs
 
 -- how many bytes the first strings of the blocks have together
 abbrev pub block_bytes : List Block → ℕ
@@ -64,14 +64,14 @@ pub record AreBlockLists (ps : List BlockList) : Type 0 where
 
 -- the entry's key is the shortest prefix of the block's first string that is above the string before the block, and its
 -- payload spells the block's offset
-pub record IsSeparator (b : Block) (e : Entry) : Type 0 where
+pub record IsSeparator (b : Block) (e : TrieEntry) : Type 0 where
   pub size : ℕ
   pub shortest : IsSeparatorLength b.before b.first size
   pub key : e.key ≡ take size b.first
   pub payload : e.payload ≡ unsigned_bytes b.offset
 
 -- one entry for each block, in order
-abbrev pub IsRowIndex : List Block → List Entry → Type 0
+abbrev pub IsRowIndex : List Block → List TrieEntry → Type 0
 IsRowIndex [] [] = Unit {0}
 IsRowIndex [] (e ∷ es) = ⊥
 IsRowIndex (b ∷ bs) [] = ⊥
@@ -79,8 +79,8 @@ IsRowIndex (b ∷ bs) (e ∷ es) = IsSeparator b e × IsRowIndex bs es
 
 -- ---- the same as a function
 
-abbrev pub separator_entry : Block → Entry
+abbrev pub separator_entry : Block → TrieEntry
 separator_entry b = record { key = take (separator_size b.before b.first) b.first; payload = unsigned_bytes b.offset }
 
-abbrev pub separator_entries : List Block → List Entry
+abbrev pub separator_entries : List Block → List TrieEntry
 separator_entries bs = map separator_entry bs

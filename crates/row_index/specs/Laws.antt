@@ -1,7 +1,7 @@
 -- What holds of the row index of every list of partitions.
 use Rattle.std.specs.Prelude.{◌≡◌, ◌<◌, ◌^◌, ℕ, List, [], ◌∷◌, ◌++◌, length, drop}
 use Rattle.bti_nodes.specs.Trie.{paths}
-use Rattle.page_packer.specs.Early.{IsPrefix}
+use Rattle.page_packer.specs.Early.{IsBeginning}
 use Rattle.page_packer.specs.Reading.{AreThese}
 use Rattle.row_index.specs.Entries.{AreBlocks, AreBlockLists, Block, BlockList, IsRowIndex, separator_entries}
 use Rattle.row_index.specs.File.{row_entry, row_entry_at, row_file, row_trie}
@@ -26,15 +26,15 @@ EachStandsInRows =
     → StandsInRows (row_file (before ++ p ∷ more)) p (length (row_file before))
 
 -- the open blocks are the first ones of the next partition, or there are none
-abbrev pub IsBegun : List Block → List BlockList → Type 0
-IsBegun [] more = Unit {0}
-IsBegun (b ∷ bs) [] = ⊥
-IsBegun (b ∷ bs) (p ∷ more) = (rest : List Block) × (p.blocks ≡ (b ∷ bs) ++ rest)
+abbrev pub IsBegunFile : List Block → List BlockList → Type 0
+IsBegunFile [] more = Unit {0}
+IsBegunFile (b ∷ bs) [] = ⊥
+IsBegunFile (b ∷ bs) (p ∷ more) = (rest : List Block) × (p.blocks ≡ (b ∷ bs) ++ rest)
 
 -- What stands early is a prefix of the file of every list of partitions that goes on from there.
 abbrev pub EarlyRowsStand : Type 0
-EarlyRowsStand = (w : RowIndexing) (more : List BlockList) → AreBlockLists (w.done ++ more) → IsBegun w.begun more
-    → IsPrefix (early_rows w) (row_file (w.done ++ more))
+EarlyRowsStand = (w : RowIndexing) (more : List BlockList) → AreBlockLists (w.done ++ more) → IsBegunFile w.begun more
+    → IsBeginning (early_rows w) (row_file (w.done ++ more))
 
 -- Each block appends the rest of what stands early with it, and the end of a partition the rest of its bytes.
 abbrev pub EarlyRowsGrow : Type 0

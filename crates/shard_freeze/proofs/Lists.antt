@@ -15,7 +15,7 @@ use Rattle.trie_image.specs.WellFormed.{IsWellFormed}
 use Rattle.trie_image.proofs.Children.{closed}
 use Rattle.trie_image.proofs.Readings.{sees_none, sees_there}
 use Rattle.shard_freeze.specs.Sorted.{entries_made, table_made}
-use Rattle.shard_freeze.specs.Listing.{value_of, behind, own_entry, under_child, under, listed, listed_from, LawLists}
+use Rattle.shard_freeze.specs.Listing.{value_of, behind, own_entry, under_child, entries_below, entries_seen, listed_from, LawLists}
 use Rattle.shard_freeze.proofs.Entries.{AllFirst, all_lower, all_joined, all_behind, sorted_next, sorted_own, find_later, find_empty, find_past, find_here}
 use Rattle.shard_freeze.proofs.Puts.{value_found}
 
@@ -60,16 +60,16 @@ module _ (w : List ℕ) (g : Ledger) (cells : ℕ) (ok : IsWellFormed w g cells)
     child_first : (f : ℕ → List Entry) (b c : ℕ) → AllFirst b (under_child (reading w) value f b c)
     child_first f b c = ⊎_elim (λ (z : c ≡ 0). subst (AllFirst b) (sym (no_child f b c z)) tt) (λ (ne : c ≢ 0). subst (AllFirst b) (sym (a_child f b c ne)) (all_behind b (f c))) (cases_eq c 0)
 
-    pub under_first : (f : ℕ → List Entry) (p low n : ℕ) → AllFirst low (under (reading w) value f p low n)
-    unfolding under
+    pub under_first : (f : ℕ → List Entry) (p low n : ℕ) → AllFirst low (entries_below (reading w) value f p low n)
+    unfolding entries_below
     under_first f p low zero = tt
-    under_first f p low (suc n) = all_joined low (under_child (reading w) value f low ((reading w).child p low)) (under (reading w) value f p (low + 1) n) (child_first f low ((reading w).child p low))
-        (all_lower low (low + 1) (under (reading w) value f p (low + 1) n) (omega arith) (under_first f p (low + 1) n))
+    under_first f p low (suc n) = all_joined low (under_child (reading w) value f low ((reading w).child p low)) (entries_below (reading w) value f p (low + 1) n) (child_first f low ((reading w).child p low))
+        (all_lower low (low + 1) (entries_below (reading w) value f p (low + 1) n) (omega arith) (under_first f p (low + 1) n))
 
-    under_sorted : (f : ℕ → List Entry) → ((x : ℕ) → T (is_sorted string_cmp (f x))) → (p low n : ℕ) → T (is_sorted string_cmp (under (reading w) value f p low n))
-    unfolding under
+    under_sorted : (f : ℕ → List Entry) → ((x : ℕ) → T (is_sorted string_cmp (f x))) → (p low n : ℕ) → T (is_sorted string_cmp (entries_below (reading w) value f p low n))
+    unfolding entries_below
     under_sorted f h p low zero = tt
-    under_sorted f h p low (suc n) = let c : ℕ = (reading w).child p low in let rest : List Entry = under (reading w) value f p (low + 1) n in
+    under_sorted f h p low (suc n) = let c : ℕ = (reading w).child p low in let rest : List Entry = entries_below (reading w) value f p (low + 1) n in
         ⊎_elim (λ (z : c ≡ 0). subst (λ (xs : List Entry). T (is_sorted string_cmp (xs ++ rest))) (sym (no_child f low c z)) (under_sorted f h p (low + 1) n))
         (λ (ne : c ≢ 0). subst (λ (xs : List Entry). T (is_sorted string_cmp (xs ++ rest))) (sym (a_child f low c ne)) (sorted_next low (f c) rest (h c) (under_first f p (low + 1) n) (under_sorted f h p (low + 1) n))) (cases_eq c 0)
 
@@ -81,27 +81,27 @@ module _ (w : List ℕ) (g : Ledger) (cells : ℕ) (ok : IsWellFormed w g cells)
     own_alone None = tt
     own_alone (Some cell) = tt
 
-    pub listed_sorted : (n p : ℕ) → T (is_sorted string_cmp (listed (reading w) value n p))
-    unfolding listed
+    pub listed_sorted : (n p : ℕ) → T (is_sorted string_cmp (entries_seen (reading w) value n p))
+    unfolding entries_seen
     listed_sorted zero p = own_alone ((reading w).record_at p)
-    listed_sorted (suc n) p = own_sorted ((reading w).record_at p) (under (reading w) value (listed (reading w) value n) p 0 256) (under_first (listed (reading w) value n) p 0 256)
-        (under_sorted (listed (reading w) value n) (λ x. listed_sorted n x) p 0 256)
+    listed_sorted (suc n) p = own_sorted ((reading w).record_at p) (entries_below (reading w) value (entries_seen (reading w) value n) p 0 256) (under_first (entries_seen (reading w) value n) p 0 256)
+        (under_sorted (entries_seen (reading w) value n) (λ x. listed_sorted n x) p 0 256)
 
     -- ---- what a key finds
 
-    under_lacks : (f : ℕ → List Entry) (p c : ℕ) (k : List ℕ) → (reading w).child p c ≡ 0 → (n low : ℕ) → find string_cmp (c ∷ k) (under (reading w) value f p low n) ≡ None
-    unfolding under
+    under_lacks : (f : ℕ → List Entry) (p c : ℕ) (k : List ℕ) → (reading w).child p c ≡ 0 → (n low : ℕ) → find string_cmp (c ∷ k) (entries_below (reading w) value f p low n) ≡ None
+    unfolding entries_below
     under_lacks f p c k none zero low = refl
-    under_lacks f p c k none (suc n) low = let d : ℕ = (reading w).child p low in let rest : List Entry = under (reading w) value f p (low + 1) n in
+    under_lacks f p c k none (suc n) low = let d : ℕ = (reading w).child p low in let rest : List Entry = entries_below (reading w) value f p (low + 1) n in
         ⊎_elim (λ (z : d ≡ 0). ap (λ (xs : List Entry). find string_cmp (c ∷ k) (xs ++ rest)) (no_child f low d z))
         (λ (ne : d ≢ 0). ap (λ (xs : List Entry). find string_cmp (c ∷ k) (xs ++ rest)) (a_child f low d ne)
         ∙ find_past low c k (f d) rest (λ e. ne (ap (λ (x : ℕ). (reading w).child p x) (sym e) ∙ none))) (cases_eq d 0)
         ∙ under_lacks f p c k none n (low + 1)
 
-    under_finds : (f : ℕ → List Entry) (p c : ℕ) (k : List ℕ) → (reading w).child p c ≢ 0 → (n low : ℕ) → low ≤ c → c < low + n → find string_cmp (c ∷ k) (under (reading w) value f p low n) ≡ find string_cmp k (f ((reading w).child p c))
-    unfolding under
+    under_finds : (f : ℕ → List Entry) (p c : ℕ) (k : List ℕ) → (reading w).child p c ≢ 0 → (n low : ℕ) → low ≤ c → c < low + n → find string_cmp (c ∷ k) (entries_below (reading w) value f p low n) ≡ find string_cmp k (f ((reading w).child p c))
+    unfolding entries_below
     under_finds f p c k some zero low l m = absurd (omega arith)
-    under_finds f p c k some (suc n) low l m = let d : ℕ = (reading w).child p low in let rest : List Entry = under (reading w) value f p (low + 1) n in
+    under_finds f p c k some (suc n) low l m = let d : ℕ = (reading w).child p low in let rest : List Entry = entries_below (reading w) value f p (low + 1) n in
         ⊎_elim
         (λ (e : c ≡ low). let here : d ≡ (reading w).child p c = ap (λ (x : ℕ). (reading w).child p x) (sym e) in
         ap (λ (xs : List Entry). find string_cmp (c ∷ k) (xs ++ rest)) (ap (λ (x : ℕ). under_child (reading w) value f low x) here ∙ a_child f low ((reading w).child p c) some ∙ ap (λ (x : ℕ). behind (x ∷ []) (f ((reading w).child p c))) (sym e))
@@ -133,16 +133,16 @@ module _ (w : List ℕ) (g : Ledger) (cells : ℕ) (ok : IsWellFormed w g cells)
     none_valued : (o : Option ℕ) → o ≡ None → valued o ≡ None
     none_valued o e = ap valued e
 
-    pub listed_finds : (n p : ℕ) (q : List ℕ) → HasPath g p q → length q + n ≡ 2048 → (k : List ℕ) → find string_cmp k (listed (reading w) value n p) ≡ valued (sees (reading w) p k)
-    unfolding listed
+    pub listed_finds : (n p : ℕ) (q : List ℕ) → HasPath g p q → length q + n ≡ 2048 → (k : List ℕ) → find string_cmp k (entries_seen (reading w) value n p) ≡ valued (sees (reading w) p k)
+    unfolding entries_seen
     listed_finds zero p q at whole [] = own_only ((reading w).record_at p)
     listed_finds zero p q at whole (c ∷ k) = none_own ((reading w).record_at p) c k
         ∙ sym (none_valued (sees_from (reading w) ((reading w).child p c) k) (⊎_elim (λ (z : (reading w).child p c ≡ 0). sees_none (reading w) ((reading w).child p c) k z) (λ (ne : (reading w).child p c ≢ 0). absurd (omega (arith, child_length p c q at ne))) (cases_eq ((reading w).child p c) 0)))
-    listed_finds (suc n) p q at whole [] = own_finds ((reading w).record_at p) (under (reading w) value (listed (reading w) value n) p 0 256) (under_first (listed (reading w) value n) p 0 256)
-    listed_finds (suc n) p q at whole (c ∷ k) = own_passed ((reading w).record_at p) c k (under (reading w) value (listed (reading w) value n) p 0 256)
+    listed_finds (suc n) p q at whole [] = own_finds ((reading w).record_at p) (entries_below (reading w) value (entries_seen (reading w) value n) p 0 256) (under_first (entries_seen (reading w) value n) p 0 256)
+    listed_finds (suc n) p q at whole (c ∷ k) = own_passed ((reading w).record_at p) c k (entries_below (reading w) value (entries_seen (reading w) value n) p 0 256)
         ∙ ⊎_elim
-        (λ (z : (reading w).child p c ≡ 0). under_lacks (listed (reading w) value n) p c k z 256 0 ∙ sym (none_valued (sees_from (reading w) ((reading w).child p c) k) (sees_none (reading w) ((reading w).child p c) k z)))
-        (λ (ne : (reading w).child p c ≢ 0). under_finds (listed (reading w) value n) p c k ne 256 0 (omega arith) (child_byte p c q at ne)
+        (λ (z : (reading w).child p c ≡ 0). under_lacks (entries_seen (reading w) value n) p c k z 256 0 ∙ sym (none_valued (sees_from (reading w) ((reading w).child p c) k) (sees_none (reading w) ((reading w).child p c) k z)))
+        (λ (ne : (reading w).child p c ≢ 0). under_finds (entries_seen (reading w) value n) p c k ne 256 0 (omega arith) (child_byte p c q at ne)
         ∙ listed_finds n ((reading w).child p c) (q ++ c ∷ []) (child_path p c q at ne) (omega (arith, length-append q (c ∷ []))) k
         ∙ ap valued (sym (sees_there (reading w) ((reading w).child p c) k ne)))
         (cases_eq ((reading w).child p c) 0)

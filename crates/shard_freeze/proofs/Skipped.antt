@@ -7,7 +7,7 @@ use Rattle.cell_layout.specs.Words.{byte_of}
 use Rattle.cell_layout.specs.Slots.{slots_of, slot_at, child_count, Ascends, IsSparse}
 use Rattle.cell_layout.proofs.Ordered.{ordered}
 use Rattle.trie_image.specs.Image.{word_of, field, leaf_child, split_child, slot_child}
-use Rattle.shard_freeze.specs.Edges.{IsLeastChild, IsFirstPlace, Skips}
+use Rattle.shard_freeze.specs.Edges.{IsLeastChild, IsFirstPlace, SkipsBytes}
 
 module _ (w : List ℕ) (top : ℕ) where
   no_mid : (c : ℕ) → c < 256 → field w top (c / 64) ≡ 0 → split_child w top c ≡ 0
@@ -20,7 +20,7 @@ module _ (w : List ℕ) (top : ℕ) where
   no_leaf c small z = ⊎_elim (λ (m : field w top (c / 64) ≡ 0). no_mid c small m)
       (λ (m : field w top (c / 64) ≢ 0). with_mid c small m ∙ rw (eq-eqb (field w (field w top (c / 64) / 32) (c / 8 % 8)) 0 z) refl) (cases_eq (field w top (c / 64)) 0)
 
-  pub skips_leaf : (byte : ℕ) → byte < 256 → field w (field w top (byte / 64) / 32) (byte / 8 % 8) ≡ 0 → Skips (split_child w top) byte ((byte / 8 + 1) * 8)
+  pub skips_leaf : (byte : ℕ) → byte < 256 → field w (field w top (byte / 64) / 32) (byte / 8 % 8) ≡ 0 → SkipsBytes (split_child w top) byte ((byte / 8 + 1) * 8)
   skips_leaf byte small z = record {
     more = omega arith;
     most = omega arith;
@@ -29,7 +29,7 @@ module _ (w : List ℕ) (top : ℕ) where
         no_leaf c (omega (arith, small, less)) (ap (λ (i : ℕ). field w (field w top i / 32) (c / 8 % 8)) same_mid ∙ ap (λ (j : ℕ). field w (field w top (byte / 64) / 32) j) same_leaf ∙ z);
   }
 
-  pub skips_byte : (byte : ℕ) → byte < 256 → field w (field w (field w top (byte / 64) / 32) (byte / 8 % 8) / 32) (byte % 8) ≡ 0 → field w top (byte / 64) ≢ 0 → field w (field w top (byte / 64) / 32) (byte / 8 % 8) ≢ 0 → Skips (split_child w top) byte (byte + 1)
+  pub skips_byte : (byte : ℕ) → byte < 256 → field w (field w (field w top (byte / 64) / 32) (byte / 8 % 8) / 32) (byte % 8) ≡ 0 → field w top (byte / 64) ≢ 0 → field w (field w top (byte / 64) / 32) (byte / 8 % 8) ≢ 0 → SkipsBytes (split_child w top) byte (byte + 1)
   skips_byte byte small z mid leaf = record {
     more = omega arith;
     most = omega arith;

@@ -15,7 +15,7 @@ use Rattle.trie_image.specs.Paths.{HasPath}
 use Rattle.trie_image.specs.WellFormed.{IsWellFormed}
 use Rattle.shard_freeze.specs.declared.edges.Edge.{Edge}
 use Rattle.shard_freeze.specs.Sorted.{reaches, entries_from}
-use Rattle.shard_freeze.specs.Listing.{behind, own_entry, under_child, under, listed}
+use Rattle.shard_freeze.specs.Listing.{behind, own_entry, under_child, entries_below, entries_seen}
 use Rattle.shard_freeze.specs.Edges.{IsLeastChild, LeastChild}
 use Rattle.shard_freeze.specs.Cursor.{IsAbove}
 use Rattle.shard_freeze.proofs.Entries.{cmp_same, cmp_less, cmp_more, AllFirst, HasFirst, all_lower, all_joined, all_behind}
@@ -76,32 +76,32 @@ module _ (w : List ℕ) (value : ℕ → List ℕ) where
       some : c ≢ 0 → under_child (reading w) value f low c ≡ behind (low ∷ []) (f c)
       some ne = rw (ne_eqb c 0 ne) refl
 
-  -- the children under lesser bytes are below
-  under_parts : (f : ℕ → List Entry) (p b : ℕ) (rest : List ℕ) (d n low : ℕ) → low + d ≤ b → entries_from (b ∷ rest) (under (reading w) value f p low (d + n)) ≡ entries_from (b ∷ rest) (under (reading w) value f p (low + d) n)
-  unfolding under
+  -- the children entries_below lesser bytes are below
+  under_parts : (f : ℕ → List Entry) (p b : ℕ) (rest : List ℕ) (d n low : ℕ) → low + d ≤ b → entries_from (b ∷ rest) (entries_below (reading w) value f p low (d + n)) ≡ entries_from (b ∷ rest) (entries_below (reading w) value f p (low + d) n)
+  unfolding entries_below
   under_parts f p b rest zero n low l = let e : 0 + n ≡ n = omega arith in let a : low + 0 ≡ low = omega arith in
-      ap (λ (m : ℕ). entries_from (b ∷ rest) (under (reading w) value f p low m)) e ∙ ap (λ (x : ℕ). entries_from (b ∷ rest) (under (reading w) value f p x n)) (sym a)
+      ap (λ (m : ℕ). entries_from (b ∷ rest) (entries_below (reading w) value f p low m)) e ∙ ap (λ (x : ℕ). entries_from (b ∷ rest) (entries_below (reading w) value f p x n)) (sym a)
   under_parts f p b rest (suc d) n low l =
       let e : suc d + n ≡ suc (d + n) = omega arith in let a : low + 1 + d ≡ low + suc d = omega arith in let c : ℕ = (reading w).child p low in
-      ap (λ (m : ℕ). entries_from (b ∷ rest) (under (reading w) value f p low m)) e
-      ∙ from_joined (b ∷ rest) (under_child (reading w) value f low c) (under (reading w) value f p (low + 1) (d + n))
-      ∙ ap (λ (es : List Entry). es ++ entries_from (b ∷ rest) (under (reading w) value f p (low + 1) (d + n))) (child_less f b low c rest (omega arith))
+      ap (λ (m : ℕ). entries_from (b ∷ rest) (entries_below (reading w) value f p low m)) e
+      ∙ from_joined (b ∷ rest) (under_child (reading w) value f low c) (entries_below (reading w) value f p (low + 1) (d + n))
+      ∙ ap (λ (es : List Entry). es ++ entries_from (b ∷ rest) (entries_below (reading w) value f p (low + 1) (d + n))) (child_less f b low c rest (omega arith))
       ∙ under_parts f p b rest d n (low + 1) (omega arith)
-      ∙ ap (λ (x : ℕ). entries_from (b ∷ rest) (under (reading w) value f p x n)) a
+      ∙ ap (λ (x : ℕ). entries_from (b ∷ rest) (entries_below (reading w) value f p x n)) a
 
-  pub under_from_byte : (f : ℕ → List Entry) (p b : ℕ) (rest : List ℕ) → b < 256 → entries_from (b ∷ rest) (under (reading w) value f p 0 256) ≡ entries_from (b ∷ rest) (under (reading w) value f p b (256 - b))
+  pub under_from_byte : (f : ℕ → List Entry) (p b : ℕ) (rest : List ℕ) → b < 256 → entries_from (b ∷ rest) (entries_below (reading w) value f p 0 256) ≡ entries_from (b ∷ rest) (entries_below (reading w) value f p b (256 - b))
   under_from_byte f p b rest small = let e : 256 ≡ b + (256 - b) = omega arith in let z : 0 + b ≡ b = omega arith in
-      ap (λ (m : ℕ). entries_from (b ∷ rest) (under (reading w) value f p 0 m)) e ∙ under_parts f p b rest b (256 - b) 0 (omega arith)
-      ∙ ap (λ (x : ℕ). entries_from (b ∷ rest) (under (reading w) value f p x (256 - b))) z
+      ap (λ (m : ℕ). entries_from (b ∷ rest) (entries_below (reading w) value f p 0 m)) e ∙ under_parts f p b rest b (256 - b) 0 (omega arith)
+      ∙ ap (λ (x : ℕ). entries_from (b ∷ rest) (entries_below (reading w) value f p x (256 - b))) z
 
   module _ (g : Ledger) (cells : ℕ) (ok : IsWellFormed w g cells) where
-    later_first : (f : ℕ → List Entry) (p b low n : ℕ) → b < low → AllFirst (b + 1) (under (reading w) value f p low n)
-    later_first f p b low n l = all_lower (b + 1) low (under (reading w) value f p low n) (omega arith) (under_first w g cells ok value f p low n)
+    later_first : (f : ℕ → List Entry) (p b low n : ℕ) → b < low → AllFirst (b + 1) (entries_below (reading w) value f p low n)
+    later_first f p b low n l = all_lower (b + 1) low (entries_below (reading w) value f p low n) (omega arith) (under_first w g cells ok value f p low n)
 
     pub least_same : (f : ℕ → List Entry) (p b : ℕ) (rest : List ℕ) (e : Edge) → b < 256 → IsLeastChild ((reading w).child p) b e → e.byte ≡ b
-        → entries_from (b ∷ rest) (under (reading w) value f p 0 256) ≡ behind (e.byte ∷ []) (entries_from rest (f e.to)) ++ under (reading w) value f p (e.byte + 1) (256 - (e.byte + 1))
+        → entries_from (b ∷ rest) (entries_below (reading w) value f p 0 256) ≡ behind (e.byte ∷ []) (entries_from rest (f e.to)) ++ entries_below (reading w) value f p (e.byte + 1) (256 - (e.byte + 1))
     least_same f p b rest e small least same =
-        let later : List Entry = under (reading w) value f p (e.byte + 1) (256 - (e.byte + 1)) in
+        let later : List Entry = entries_below (reading w) value f p (e.byte + 1) (256 - (e.byte + 1)) in
         under_from_byte f p b rest small
         ∙ ap (entries_from (b ∷ rest)) (under_least w value f p b e least)
         ∙ from_joined (b ∷ rest) (behind (e.byte ∷ []) (f e.to)) later
@@ -109,15 +109,15 @@ module _ (w : List ℕ) (value : ℕ → List ℕ) where
         ∙ ap (λ (es : List Entry). behind (e.byte ∷ []) (entries_from rest (f e.to)) ++ es) (from_more b rest later (later_first f p b (e.byte + 1) (256 - (e.byte + 1)) (omega (arith, same))))
 
     pub least_later : (f : ℕ → List Entry) (p b : ℕ) (rest : List ℕ) (e : Edge) → b < 256 → IsLeastChild ((reading w).child p) b e → e.byte ≢ b
-        → entries_from (b ∷ rest) (under (reading w) value f p 0 256) ≡ behind (e.byte ∷ []) (f e.to) ++ under (reading w) value f p (e.byte + 1) (256 - (e.byte + 1))
+        → entries_from (b ∷ rest) (entries_below (reading w) value f p 0 256) ≡ behind (e.byte ∷ []) (f e.to) ++ entries_below (reading w) value f p (e.byte + 1) (256 - (e.byte + 1))
     least_later f p b rest e small least other =
-        let later : List Entry = under (reading w) value f p (e.byte + 1) (256 - (e.byte + 1)) in let above : b < e.byte = omega (arith, least.least, other) in
+        let later : List Entry = entries_below (reading w) value f p (e.byte + 1) (256 - (e.byte + 1)) in let above : b < e.byte = omega (arith, least.least, other) in
         under_from_byte f p b rest small
         ∙ ap (entries_from (b ∷ rest)) (under_least w value f p b e least)
         ∙ from_more b rest (behind (e.byte ∷ []) (f e.to) ++ later)
         (all_joined (b + 1) (behind (e.byte ∷ []) (f e.to)) later (all_lower (b + 1) e.byte (behind (e.byte ∷ []) (f e.to)) (omega arith) (all_behind e.byte (f e.to))) (later_first f p b (e.byte + 1) (256 - (e.byte + 1)) (omega arith)))
 
-    pub least_none : (f : ℕ → List Entry) (p b : ℕ) (rest : List ℕ) → b < 256 → LeastChild ((reading w).child p) b None → entries_from (b ∷ rest) (under (reading w) value f p 0 256) ≡ []
+    pub least_none : (f : ℕ → List Entry) (p b : ℕ) (rest : List ℕ) → b < 256 → LeastChild ((reading w).child p) b None → entries_from (b ∷ rest) (entries_below (reading w) value f p 0 256) ≡ []
     least_none f p b rest small none = under_from_byte f p b rest small ∙ ap (entries_from (b ∷ rest)) (under_end w value f p b (omega arith) none)
 
     own_below : (o : Option ℕ) (b : ℕ) (rest : List ℕ) (ys : List Entry) → entries_from (b ∷ rest) (own_entry (reading w) value o ++ ys) ≡ entries_from (b ∷ rest) ys
@@ -125,11 +125,11 @@ module _ (w : List ℕ) (value : ℕ → List ℕ) where
     own_below (Some cell) b rest ys = refl
 
     pub above_same : (here node : ℕ) (key : List ℕ) (b : ℕ) (rest : List ℕ) → HasPath g here key → ((c : ℕ) → (reading w).child here c ≡ (reading w).child node c)
-        → entries_from (b ∷ rest) (listed (reading w) value (2048 - length key) here) ≡ entries_from (b ∷ rest) (under (reading w) value (listed (reading w) value (2047 - length key)) node 0 256)
+        → entries_from (b ∷ rest) (entries_seen (reading w) value (2048 - length key) here) ≡ entries_from (b ∷ rest) (entries_below (reading w) value (entries_seen (reading w) value (2047 - length key)) node 0 256)
     above_same here node key b rest at same =
         ap (entries_from (b ∷ rest)) (opened w value g cells ok here key at)
-        ∙ own_below ((reading w).record_at here) b rest (under (reading w) value (listed (reading w) value (2047 - length key)) here 0 256)
-        ∙ ap (entries_from (b ∷ rest)) (under_same w value (listed (reading w) value (2047 - length key)) here node same 256 0)
+        ∙ own_below ((reading w).record_at here) b rest (entries_below (reading w) value (entries_seen (reading w) value (2047 - length key)) here 0 256)
+        ∙ ap (entries_from (b ∷ rest)) (under_same w value (entries_seen (reading w) value (2047 - length key)) here node same 256 0)
 
 module _ (w : List ℕ) (g : Ledger) (cells : ℕ) (ok : IsWellFormed w g cells) where
   node_third : (p : ℕ) (q : List ℕ) → HasPath g p q → kind_at p ≡ Some Prefix → kind_at (field w (p / 32) 1) ≢ Some Prefix

@@ -12,7 +12,7 @@ use Rattle.trie_rule.specs.Seats.{KeptWords}
 use Rattle.shard_freeze.specs.declared.walk.Walk.{Walk}
 use Rattle.shard_freeze.specs.declared.cursor.Entry.{Entry as CursorEntry}
 use Rattle.shard_freeze.specs.Sorted.{entries_from}
-use Rattle.shard_freeze.specs.Listing.{value_of, behind, under, listed, listed_from}
+use Rattle.shard_freeze.specs.Listing.{value_of, behind, entries_below, entries_seen, listed_from}
 use Rattle.shard_freeze.specs.Walk.{level_left, levels_left, left_of}
 
 -- a cursor: the shard that it was made by, and the entries that are left, in their order
@@ -21,14 +21,14 @@ pub record CursorAt : Type 0 where
   pub left : List Entry
 
 -- the first entry that is left was given, or there was none
-abbrev pub Gives : List Entry → Option Entry → List Entry → Type 0
-Gives left None left' = (left ≡ []) × (left' ≡ [])
-Gives left (Some e) left' = left ≡ e ∷ left'
+abbrev pub GivesEntry : List Entry → Option Entry → List Entry → Type 0
+GivesEntry left None left' = (left ≡ []) × (left' ≡ [])
+GivesEntry left (Some e) left' = left ≡ e ∷ left'
 
 -- the same with the parts of the entry in two buffers
 abbrev pub GivesInto : List Entry → Bool → List ℕ → List ℕ → List Entry → Type 0
-GivesInto left true key value left' = Gives left (Some (key, value)) left'
-GivesInto left false key value left' = Gives left None left'
+GivesInto left true key value left' = GivesEntry left (Some (key, value)) left'
+GivesInto left false key value left' = GivesEntry left None left'
 
 -- the cell is the first of a put's record, whatever the ledger is
 abbrev pub BeginsRecord : List ℕ → ℕ → Type 0
@@ -41,9 +41,9 @@ IsRecordValue w cell bytes = (g : Ledger) (cells : ℕ) → IsWellFormed w g cel
     → (n : ℕ) (put : Put) → slice_get g.puts n ≡ Some put → put.cell ≡ cell → bytes ≡ put.value
 
 -- a given entry as its key and its value
-abbrev pub entry_of : Option CursorEntry → Option Entry
-entry_of None = None
-entry_of (Some e) = Some (e.key, e.value)
+abbrev pub given_entry : Option CursorEntry → Option Entry
+given_entry None = None
+given_entry (Some e) = Some (e.key, e.value)
 
 -- what a walk over a shard has left
 abbrev pub left_made : KeptWords → Walk → List Entry
@@ -60,8 +60,8 @@ pub record IsAbove (w : List ℕ) (g : Ledger) (key : List ℕ) (here node : ℕ
   pub path : HasPath g node key
   pub kind : kind_at node ≢ Some Prefix
   pub same : (value : ℕ → List ℕ) (b : ℕ) (rest : List ℕ)
-      → entries_from (b ∷ rest) (listed (reading w) value (2048 - length key) here)
-      ≡ entries_from (b ∷ rest) (under (reading w) value (listed (reading w) value (2047 - length key)) node 0 256)
+      → entries_from (b ∷ rest) (entries_seen (reading w) value (2048 - length key) here)
+      ≡ entries_from (b ∷ rest) (entries_below (reading w) value (entries_seen (reading w) value (2047 - length key)) node 0 256)
 
 abbrev pub StandsAbove : List ℕ → Walk → ℕ → Type 0
 StandsAbove w s node = (g : Ledger) (cells : ℕ) → IsWellFormed w g cells → IsAbove w g s.key.items s.here node

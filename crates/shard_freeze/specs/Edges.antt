@@ -37,7 +37,7 @@ pub record HasSplitCells (w : List ℕ) (top : ℕ) : Type 0 where
       → 4 * (field w (field w top i / 32) j / 32) + 3 < length w
 
 -- no child stands under the bytes from one to before the next, which is at most 256
-pub record Skips (child : ℕ → ℕ) (byte next : ℕ) : Type 0 where
+pub record SkipsBytes (child : ℕ → ℕ) (byte next : ℕ) : Type 0 where
   pub more : byte < next
   pub most : next ≤ 256
   pub none : (c : ℕ) → byte ≤ c → c < next → child c ≡ 0

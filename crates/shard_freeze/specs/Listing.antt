@@ -24,23 +24,23 @@ module _ (r : Reading) (value : ℕ → List ℕ) where
   own_entry None = []
   own_entry (Some cell) = ([], value cell) ∷ []
 
-  -- the entries under a child, where there is one
+  -- the entries entries_below a child, where there is one
   abbrev pub under_child : (ℕ → List Entry) → ℕ → ℕ → List Entry
   under_child f b c = if c == 0 then [] else behind (b ∷ []) (f c)
 
-  -- those under the children of n bytes from `low` on
-  unfoldable pub under : (ℕ → List Entry) → ℕ → ℕ → ℕ → List Entry
-  under f p low zero = []
-  under f p low (suc n) = under_child f low (r.child p low) ++ under f p (low + 1) n
+  -- those entries_below the children of n bytes from `low` on
+  unfoldable pub entries_below : (ℕ → List Entry) → ℕ → ℕ → ℕ → List Entry
+  entries_below f p low zero = []
+  entries_below f p low (suc n) = under_child f low (r.child p low) ++ entries_below f p (low + 1) n
 
   -- all entries that a pointer other than 0 sees, whose keys have at most n bytes left
-  unfoldable pub listed : ℕ → ℕ → List Entry
-  listed zero p = own_entry (r.record_at p)
-  listed (suc n) p = own_entry (r.record_at p) ++ under (listed n) p 0 256
+  unfoldable pub entries_seen : ℕ → ℕ → List Entry
+  entries_seen zero p = own_entry (r.record_at p)
+  entries_seen (suc n) p = own_entry (r.record_at p) ++ entries_below (entries_seen n) p 0 256
 
   -- the same where the pointer may be 0
   abbrev pub listed_from : ℕ → ℕ → List Entry
-  listed_from n p = if p == 0 then [] else listed n p
+  listed_from n p = if p == 0 then [] else entries_seen n p
 
 -- the entries that the root of a well-formed image sees are those of the sorted map of its puts
 abbrev pub LawLists : Type 0

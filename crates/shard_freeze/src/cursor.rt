@@ -6,8 +6,8 @@
 ghost use Rattle.std.specs.Prelude.{◌≡◌, ◌∷◌, [], IfOk, OnErr};
 ghost use Rattle.trie_image.specs.WellFormed.{HasLedger};
 ghost use Rattle.shard_freeze.specs.Sorted.{entries_made, entries_from};
-ghost use Rattle.shard_freeze.specs.Walk.{Stands};
-ghost use Rattle.shard_freeze.specs.Cursor.{Gives, GivesInto, entry_of, left_made};
+ghost use Rattle.shard_freeze.specs.Walk.{StandsInTrie};
+ghost use Rattle.shard_freeze.specs.Cursor.{GivesEntry, GivesInto, given_entry, left_made};
 
 use crate::record::copy_value;
 use crate::walk::Walk;
@@ -46,14 +46,14 @@ pub struct Cursor {
 }
 
 impl Model for Cursor {
-    ghost use Rattle.shard_freeze.specs.Walk.{Stands};
+    ghost use Rattle.shard_freeze.specs.Walk.{StandsInTrie};
     ghost use Rattle.shard_freeze.specs.Cursor.{CursorAt, left_made};
 
     ghost Value = { CursorAt };
 
     ghost view = { λ c. record { frozen = c.frozen.value; left = left_made c.frozen.value c.walk } };
 
-    ghost invariant = { λ c. Stands c.frozen.value.words c.walk };
+    ghost invariant = { λ c. StandsInTrie c.frozen.value.words c.walk };
 }
 
 /// Puts the entry that a walk comes to next into two buffers, in place of what stands there. Whether there was one.
@@ -63,8 +63,8 @@ fn list_next(
     key: &mut ByteList,
     value: &mut ByteList,
 ) -> Result<bool, NoMemory>
-    requires stands { Stands words.now.words walk.old }
-    ensures stands { Stands words.now.words walk.new }
+    requires stands { StandsInTrie words.now.words walk.old }
+    ensures stands { StandsInTrie words.now.words walk.new }
     ensures gives { IfOk result (λ some. GivesInto (left_made words.now walk.old) some key.new value.new (left_made words.now walk.new)) }
     ensures err { OnErr result (left_made words.now walk.new ≡ left_made words.now walk.old) }
 {
@@ -82,7 +82,7 @@ fn list_next(
 
 /// The walk to the first key that isn't below `from`.
 fn walk_from(alloc: Global, words: &Words, from: &[u8]) -> Result<Walk, NoMemory>
-    ensures stands { IfOk result (λ walk. Stands words.now.words walk) }
+    ensures stands { IfOk result (λ walk. StandsInTrie words.now.words walk) }
     ensures left { IfOk result (λ walk. left_made words.now walk ≡ entries_from from.now (entries_made words.now.made)) }
 {
     words.is_standing();
@@ -133,7 +133,7 @@ impl Frozen {
     pub fn next(&self, alloc: Global, cursor: &mut Cursor) -> Result<Option<Entry>, NoMemory>
         requires { cursor.old.frozen ≡ self.now }
         ensures own { cursor.new.frozen ≡ self.now }
-        ensures gives { IfOk result (λ entry. Gives cursor.old.left (entry_of entry) cursor.new.left) }
+        ensures gives { IfOk result (λ entry. GivesEntry cursor.old.left (given_entry entry) cursor.new.left) }
         ensures err { OnErr result (cursor.new.left ≡ cursor.old.left) }
     {
         let mut key = ByteList::new(alloc);

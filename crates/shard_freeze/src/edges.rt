@@ -9,7 +9,7 @@ ghost use Rattle.cell_layout.specs.Slots.{slot_at, slots_of, child_count, IsSpar
 ghost use Rattle.cell_layout.specs.Words.{byte_of};
 ghost use Rattle.trie_image.specs.Image.{word_of, field, chain_child, slot_child, split_child, reading};
 ghost use Rattle.trie_image.specs.WellFormed.{HasLedger};
-ghost use Rattle.shard_freeze.specs.Edges.{LeastChild, IsFirstPlace, HasSplitCells, Skips, HasSomePath};
+ghost use Rattle.shard_freeze.specs.Edges.{LeastChild, IsFirstPlace, HasSplitCells, SkipsBytes, HasSomePath};
 
 use cell_layout::{Kind, Ptr, chain_byte, chain_tail, half, kind_of, sparse_count, sparse_ordered};
 use trie_rule::Words;
@@ -94,7 +94,7 @@ fn look_in_split(words: &Words, top: u32, byte: u32) -> (u32, u32)
     requires cells { HasSplitCells words.now.words top }
     requires small { byte < 256 }
     ensures child { result.0 ≡ split_child words.now.words top byte }
-    ensures next { result.0 ≡ 0 → Skips (split_child words.now.words top) byte result.1 }
+    ensures next { result.0 ≡ 0 → SkipsBytes (split_child words.now.words top) byte result.1 }
 {
     let mid = pointer_in(words, top, byte / 64);
     if mid == 0 {

@@ -8,7 +8,7 @@ ghost use Rattle.cell_layout.specs.declared.Kind.TheVariants.{Content};
 ghost use Rattle.cell_layout.specs.Pointers.{kind_at};
 ghost use Rattle.trie_image.specs.Image.{root_of};
 ghost use Rattle.trie_image.specs.WellFormed.{HasLedger};
-ghost use Rattle.shard_freeze.specs.Walk.{Stands, SameLeft, size_of, IsSettled, whole_level, kept_levels};
+ghost use Rattle.shard_freeze.specs.Walk.{StandsInTrie, SameLeft, size_of, IsSettled, whole_level, kept_levels};
 
 use crate::edges::{least_child, pointer_in};
 use cell_layout::{Kind, Ptr, kind_of};
@@ -50,7 +50,7 @@ impl Walk {
         ensures here { result.here ≡ root_of words.now.words }
         ensures below { result.below.items ≡ [] }
         ensures top { 256 ≤ result.top.next }
-        ensures stands { Stands words.now.words result }
+        ensures stands { StandsInTrie words.now.words result }
     {
         Walk {
             key: Vec::new(alloc),
@@ -83,10 +83,10 @@ impl Walk {
     /// Opens the node that the walk is at; a prefix cell's record comes before its node.
     fn visit(&mut self, words: &Words) -> Result<(), NoMemory>
         requires image { HasLedger words.now.words }
-        requires stands { Stands words.now.words self.old }
+        requires stands { StandsInTrie words.now.words self.old }
         requires there { self.old.here ≢ 0 }
         requires node { kind_at self.old.here ≢ Some Content }
-        ensures stands { Stands words.now.words self.new }
+        ensures stands { StandsInTrie words.now.words self.new }
         ensures left { SameLeft words.now.words self.old self.new }
         ensures falls { OnOk result (size_of self.new < size_of self.old) }
     {
@@ -104,10 +104,10 @@ impl Walk {
     /// Goes to the least child that is left of the last node, or passes that node where none is.
     fn enter(&mut self, words: &Words) -> Result<(), NoMemory>
         requires image { HasLedger words.now.words }
-        requires stands { Stands words.now.words self.old }
+        requires stands { StandsInTrie words.now.words self.old }
         requires none { self.old.here ≡ 0 }
         requires more { self.old.top.next < 256 }
-        ensures stands { Stands words.now.words self.new }
+        ensures stands { StandsInTrie words.now.words self.new }
         ensures left { SameLeft words.now.words self.old self.new }
         ensures falls { OnOk result (size_of self.new < size_of self.old) }
     {
@@ -126,8 +126,8 @@ impl Walk {
     /// One step on, or none where the walk is at a record or at its end.
     fn step(&mut self, words: &Words) -> Result<bool, NoMemory>
         requires image { HasLedger words.now.words }
-        requires stands { Stands words.now.words self.old }
-        ensures stands { Stands words.now.words self.new }
+        requires stands { StandsInTrie words.now.words self.old }
+        ensures stands { StandsInTrie words.now.words self.new }
         ensures left { SameLeft words.now.words self.old self.new }
         ensures falls { IfOk result (λ more. IsTrue more → size_of self.new < size_of self.old) }
         ensures settled { IfOk result (λ more. (IsTrue more → ⊥) → IsSettled self.new) }
@@ -151,8 +151,8 @@ impl Walk {
     /// Goes on to the next record, or to the end.
     pub fn settle(&mut self, words: &Words) -> Result<(), NoMemory>
         requires image { HasLedger words.now.words }
-        requires stands { Stands words.now.words self.old }
-        ensures stands { Stands words.now.words self.new }
+        requires stands { StandsInTrie words.now.words self.old }
+        ensures stands { StandsInTrie words.now.words self.new }
         ensures left { SameLeft words.now.words self.old self.new }
         ensures settled { OnOk result (IsSettled self.new) }
     {

@@ -11,7 +11,7 @@ use Rattle.key_types.specs.declared.schema.ValueType.TheVariants.{Text, Blob}
 use Rattle.key_decode.proofs.Known.{string_length}
 use Rattle.length_prefix.specs.Counted.{counted}
 use Rattle.data_file.specs.Listing.{AreRows, ArePartitions, FitsStaticType, Partition, Row, data_bytes, end_bytes, head_bytes, partition_bytes, row_bytes, rows_bytes, static_bytes, static_part_bytes}
-use Rattle.row_index.specs.Entries.{AreBlocks, Block, IsBeforeNext, IsBlock, block_bytes}
+use Rattle.row_index.specs.Entries.{AreBlocks, Block, IsBeforeNextBlock, IsBlock, block_bytes}
 use Rattle.row_index.specs.Writing.{block_of}
 use Rattle.table_files.specs.Blocks.{block_begun, block_start, blocks_among, blocks_behind, blocks_of, ends_block, rows_at}
 use Rattle.table_files.specs.Standing.{RowsAscend, StringsAscend, entries_in, row_entries, static_entries}
@@ -103,14 +103,14 @@ module _ (columns : Columns) where
 
   -- the row before the first of the blocks isn't below what the row before them all isn't below
   first_behind : (x : List ℕ) (start : ℕ) (before : List ℕ) (end_ : ℕ) (rows : List Row) → StringsAscend (before ∷ clusterings rows)
-      → (string_cmp before x ≡ Less → ⊥) → IsBeforeNext x (blocks_behind start before end_ rows)
+      → (string_cmp before x ≡ Less → ⊥) → IsBeforeNextBlock x (blocks_behind start before end_ rows)
   first_behind x start before end_ [] ascend unmet = tt
   first_behind x start before end_ (row ∷ rows) ascend unmet =
       by (ends_block start end_) (λ start'. first_behind x start' row.clustering (end_ + length (row_bytes row.clustering row.value)) rows ascend.1
       (λ low. unmet (nat_list_cmp_total.trans before row.clustering x ascend.0 low)))
     where
-      by : (t : Bool) → ((start' : ℕ) → IsBeforeNext x (blocks_behind start' row.clustering (end_ + length (row_bytes row.clustering row.value)) rows))
-          → IsBeforeNext x ((if t then block_of before row.clustering end_ ∷ [] else []) ++ blocks_behind (if t then end_ else start) row.clustering (end_ + length (row_bytes row.clustering row.value)) rows)
+      by : (t : Bool) → ((start' : ℕ) → IsBeforeNextBlock x (blocks_behind start' row.clustering (end_ + length (row_bytes row.clustering row.value)) rows))
+          → IsBeforeNextBlock x ((if t then block_of before row.clustering end_ ∷ [] else []) ++ blocks_behind (if t then end_ else start) row.clustering (end_ + length (row_bytes row.clustering row.value)) rows)
       by true rest = unmet
       by false rest = rest start
 

@@ -7,8 +7,8 @@ use Rattle.key_types.specs.Columns.{Columns}
 use Rattle.bti_nodes.specs.Payloads.{doubled, signed_bytes, signed_number, unsigned_bytes, unsigned_number}
 use Rattle.bti_nodes.specs.Trie.{Path, Paths, paths}
 use Rattle.bti_nodes.proofs.Numbers.{numbers_read}
-use Rattle.page_packer.specs.Reading.{AreThese, entry_of}
-use Rattle.page_packer.specs.Tree.{Entry}
+use Rattle.page_packer.specs.Reading.{AreThese, entry_of_path}
+use Rattle.page_packer.specs.Tree.{TrieEntry}
 use Rattle.data_file.specs.Listing.{Partition}
 use Rattle.partition_index.specs.Entries.{AreIndexed, AreNumbered, Numbered, StandApart, index_entries}
 use Rattle.partition_index.specs.File.{index_trie, partition_file}
@@ -32,7 +32,7 @@ doubled_few (pos n) low high = grind (arith, ints)
 doubled_few (negsuc n) low high = grind (arith, ints)
 
 -- entries of an index as paths
-index_paths : (before : List (List ℕ)) (ps : List Numbered) (found : List Path) (es : List Entry) → StandApart ps → AreIndexed before ps es → map entry_of found ≡ es
+index_paths : (before : List (List ℕ)) (ps : List Numbered) (found : List Path) (es : List TrieEntry) → StandApart ps → AreIndexed before ps es → map entry_of_path found ≡ es
     → AreIndexPaths before ps found
 index_paths before [] [] es apart are is = tt
 index_paths before [] (f ∷ found) [] apart are is = cc
@@ -40,10 +40,10 @@ index_paths before [] (f ∷ found) (e ∷ es) apart are is = absurd are
 index_paths before (p ∷ ps) found [] apart are is = absurd are
 index_paths before (p ∷ ps) [] (e ∷ es) apart are is = cc
 index_paths before (p ∷ ps) (f ∷ found) (e ∷ es) apart are is =
-    let first : entry_of f ≡ e = cc in
-    let rest : map entry_of found ≡ es = cc in
-    let key : f.path ≡ e.key = ap (λ (x : Entry). x.key) first in
-    let payload : f.payload ≡ e.payload = ap (λ (x : Entry). x.payload) first in (
+    let first : entry_of_path f ≡ e = cc in
+    let rest : map entry_of_path found ≡ es = cc in
+    let key : f.path ≡ e.key = ap (λ (x : TrieEntry). x.key) first in
+    let payload : f.payload ≡ e.payload = ap (λ (x : TrieEntry). x.payload) first in (
       record {
         size = are.0.size;
         unique = are.0.unique;
@@ -57,17 +57,17 @@ means_index : (ps : List Numbered) (found : Paths) → AreNumbered ps → AreThe
 means_index ps (Ok found) h these = index_paths [] ps found (index_entries ps) h.ascend (entries_are_index ps h) these
 means_index ps (Err wrong) h these = these
 
-block_paths : (bs : List Block) (found : List Path) (es : List Entry) → AreBlocks bs → IsRowIndex bs es → map entry_of found ≡ es → AreBlockPaths bs found
+block_paths : (bs : List Block) (found : List Path) (es : List TrieEntry) → AreBlocks bs → IsRowIndex bs es → map entry_of_path found ≡ es → AreBlockPaths bs found
 block_paths [] [] es blocks are is = tt
 block_paths [] (f ∷ found) [] blocks are is = cc
 block_paths [] (f ∷ found) (e ∷ es) blocks are is = absurd are
 block_paths (b ∷ bs) found [] blocks are is = absurd are
 block_paths (b ∷ bs) [] (e ∷ es) blocks are is = cc
 block_paths (b ∷ bs) (f ∷ found) (e ∷ es) blocks are is =
-    let first : entry_of f ≡ e = cc in
-    let rest : map entry_of found ≡ es = cc in
-    let key : f.path ≡ e.key = ap (λ (x : Entry). x.key) first in
-    let payload : f.payload ≡ e.payload = ap (λ (x : Entry). x.payload) first in (
+    let first : entry_of_path f ≡ e = cc in
+    let rest : map entry_of_path found ≡ es = cc in
+    let key : f.path ≡ e.key = ap (λ (x : TrieEntry). x.key) first in
+    let payload : f.payload ≡ e.payload = ap (λ (x : TrieEntry). x.payload) first in (
       record {
         size = are.0.size;
         shortest = are.0.shortest;

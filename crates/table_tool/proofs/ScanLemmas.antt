@@ -16,7 +16,7 @@ use Rattle.table_tool.specs.declared.scan.Turn.TheVariants.{On, Stopped}
 use Rattle.table_tool.specs.Printed.{entry_lines}
 use Rattle.table_tool.specs.Scanned.{Holding, IsBounded, IsPart, TurnIs}
 use Rattle.table_tool.specs.Outcome.{AppendsPrefix}
-use Rattle.table_tool.specs.Steps.{HasKey, Moves, PrintsEntries, StepIs, inside_of}
+use Rattle.table_tool.specs.Steps.{HoldsKey, Moves, PrintsEntries, StepIs, inside_of}
 use Rattle.table_files.specs.Walk.{Walks, Passes, Stops}
 use Rattle.table_tool.specs.Window.{Unread, Continues}
 use Rattle.table_tool.proofs.PrintedLemmas.{count_append, lines_append}
@@ -156,7 +156,7 @@ module _ (columns : Columns) where
   -- a scan that differs in its text alone
   pub bounded_same : (scan scan' : Scan) → scan'.walk ≡ scan.walk → scan'.rows ≡ scan.rows → IsBounded columns scan → IsBounded columns scan'
   bounded_same scan scan' walk rows b = record {
-    key = subst (λ (w : Walk). HasKey columns w) (sym walk) b.key;
+    key = subst (λ (w : Walk). HoldsKey columns w) (sym walk) b.key;
     rows = subst (λ (w : Walk). scan'.rows ≤ w.window.at) (sym walk) (subst (λ (n : ℕ). n ≤ scan.walk.window.at) (sym rows) b.rows);
     inside = subst (λ (w : Walk). w.window.at ≤ w.window.limit) (sym walk) b.inside;
     limit = subst (λ (w : Walk). w.window.limit < 2 ^ 62) (sym walk) b.limit;

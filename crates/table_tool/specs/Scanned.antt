@@ -19,14 +19,14 @@ use Rattle.table_tool.specs.First.{first_generation}
 use Rattle.table_tool.specs.Scanning.{EndsScan, IsShown, ScanWrites, Shown, shown_text}
 use Rattle.table_files.specs.Names.{data_id}
 use Rattle.table_files.specs.Walk.{Passes, Stops}
-use Rattle.table_tool.specs.Steps.{HasKey, inside_of}
+use Rattle.table_tool.specs.Steps.{HoldsKey, inside_of}
 use Rattle.table_tool.specs.Window.{Continues}
 
 -- over a table with these columns
 module _ (columns : Columns) where
   -- there are at most as many rows as bytes that were passed
   pub record IsBounded (scan : Scan) : Type 0 where
-    pub key : HasKey columns scan.walk
+    pub key : HoldsKey columns scan.walk
     pub rows : scan.rows ≤ scan.walk.window.at
     pub inside : scan.walk.window.at ≤ scan.walk.window.limit
     pub limit : scan.walk.window.limit < 2 ^ 62

@@ -21,8 +21,8 @@ inside_of walk = if walk.inside then Some walk.key else None
 -- over a table with these columns
 module _ (columns : Columns) where
   -- inside a partition the walk has the text of its components
-  abbrev pub HasKey : Walk → Type 0
-  HasKey walk = walk.inside ≡ true → IsTextOf columns.partition walk.key walk.text
+  abbrev pub HoldsKey : Walk → Type 0
+  HoldsKey walk = walk.inside ≡ true → IsTextOf columns.partition walk.key walk.text
 
   -- over every file that the window is one of, the walk passes these entries, and the window is of the file still
   abbrev pub Moves : Walk → Walk → List Entry → Type 0

@@ -5,7 +5,7 @@ ghost use Rattle.key_types.specs.Columns.{columns_of};
 ghost use Rattle.bti_nodes.specs.declared.damage.Cause.TheVariants.{BadRow};
 ghost use Rattle.data_file.specs.Answers.{damage_at};
 ghost use Rattle.table_tool.specs.Window.{HasEnough};
-ghost use Rattle.table_tool.specs.Steps.{HasKey, IsStaticPartBehind, NoStaticPartBehind, StepIs};
+ghost use Rattle.table_tool.specs.Steps.{HoldsKey, IsStaticPartBehind, NoStaticPartBehind, StepIs};
 
 use crate::printing::{put_row, put_static_part};
 use crate::window::Window;
@@ -103,7 +103,7 @@ impl Walk {
         requires full { HasEnough self.old.window }
         requires outside { self.old.inside ≡ false }
         ensures step { IfOk result (StepIs (columns_of schema.now) self.old self.new out.old out.new) }
-        ensures key { IfOk result (λ _. HasKey (columns_of schema.now) self.new) }
+        ensures key { IfOk result (λ _. HoldsKey (columns_of schema.now) self.new) }
     {
         let bytes = self.window.unread();
         if bytes.is_empty() {
@@ -133,9 +133,9 @@ impl Walk {
     fn go_on(&mut self, alloc: Global, schema: &Schema, out: &mut ByteList) -> Result<Met, NoMemory>
         requires full { HasEnough self.old.window }
         requires inside { ¬ (self.old.inside ≡ false) }
-        requires key { HasKey (columns_of schema.now) self.old }
+        requires key { HoldsKey (columns_of schema.now) self.old }
         ensures step { IfOk result (StepIs (columns_of schema.now) self.old self.new out.old out.new) }
-        ensures key { IfOk result (λ _. HasKey (columns_of schema.now) self.new) }
+        ensures key { IfOk result (λ _. HoldsKey (columns_of schema.now) self.new) }
     {
         match row_in(schema, self.window.unread()) {
             Ok(Some(row)) => {
@@ -170,9 +170,9 @@ impl Walk {
         out: &mut ByteList,
     ) -> Result<Met, NoMemory>
         requires full { HasEnough self.old.window }
-        requires key { HasKey (columns_of schema.now) self.old }
+        requires key { HoldsKey (columns_of schema.now) self.old }
         ensures step { IfOk result (StepIs (columns_of schema.now) self.old self.new out.old out.new) }
-        ensures key { IfOk result (λ _. HasKey (columns_of schema.now) self.new) }
+        ensures key { IfOk result (λ _. HoldsKey (columns_of schema.now) self.new) }
     {
         if self.inside {
             self.go_on(alloc, schema, out)

@@ -10,13 +10,13 @@ use Rattle.trie_machine.specs.Events.{reader_after, LoadTells}
 use Rattle.trie_rule.specs.declared.views.ReadView.{ReadView}
 use Rattle.trie_rule.specs.Rule.{IsStartOf}
 use Rattle.trie_rule.specs.Seats.{FindMoves}
-use Rattle.trie_reader.specs.Passing.{find_at, finding, Passes, CountsSteps, IsThere}
+use Rattle.trie_reader.specs.Passing.{find_at, finding, PassesWords, CountsSteps, IsThere}
 
 pub starts_trans : (xs ys zs : List Put) → IsStartOf xs ys → IsStartOf ys zs → IsStartOf xs zs
 starts_trans xs ys zs a b = (a.0 ++ b.0, b.1 ∙ ap (λ (l : List Put). l ++ b.0) a.1 ∙ append_assoc xs a.0 b.0)
 
 -- one load
-pub loaded : (r q : ReadView) (base : ℕ) (place : Place) (key : List ℕ) (outcome : Advance) → r.reader ≡ finding base place key → FindMoves r.reader.find r outcome q → Passes r q base place key outcome
+pub loaded : (r q : ReadView) (base : ℕ) (place : Place) (key : List ℕ) (outcome : Advance) → r.reader ≡ finding base place key → FindMoves r.reader.find r outcome q → PassesWords r q base place key outcome
 loaded r q base place key outcome at moves =
     let m = moves (find_at base place key) (ap (λ (x : Reader). x.find) at) in
     let move = m.2 in record {
@@ -32,7 +32,7 @@ counted puts words old new base place key (On next) t one = omega (arith, t.1, o
 counted puts words old new base place key (Found rec) t one = omega (arith, one)
 counted puts words old new base place key Absent t one = omega (arith, one)
 
-pub there : (r q : ReadView) (base : ℕ) (place : Place) (key : List ℕ) (outcome : Advance) → Passes r q base place key outcome → IsThere q base key outcome
+pub there : (r q : ReadView) (base : ℕ) (place : Place) (key : List ℕ) (outcome : Advance) → PassesWords r q base place key outcome → IsThere q base key outcome
 there r q base place key (On next) p = p.reader
 there r q base place key (Found rec) p = tt
 there r q base place key Absent p = tt
@@ -48,7 +48,7 @@ same_reader base from place key (On next) = λ k. finding base next key
 same_reader base from place key (Found rec) = λ k. reader_after (finding base from key) (find_at base from key) (Found rec)
 same_reader base from place key Absent = λ k. reader_after (finding base from key) (find_at base from key) Absent
 
-pub passes_on : (r s q : ReadView) (base : ℕ) (from place : Place) (key : List ℕ) (outcome : Advance) → Passes r s base from key (On place) → Passes s q base place key outcome → Passes r q base from key outcome
+pub passes_on : (r s q : ReadView) (base : ℕ) (from place : Place) (key : List ℕ) (outcome : Advance) → PassesWords r s base from key (On place) → PassesWords s q base place key outcome → PassesWords r q base from key outcome
 passes_on r s q base from place key outcome a b = record {
   cells = b.cells ∙ a.cells;
   seen = starts_trans r.seen s.seen q.seen a.seen b.seen;

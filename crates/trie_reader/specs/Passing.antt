@@ -19,7 +19,7 @@ finding base place key = record { front = base; find = Some (find_at base place 
 
 -- the find went on from a place to this outcome: the reader has seen at least what it had, and stands where the outcome
 -- says; the next place is nearer to the end and needs a word of the image, and an answer is legal for what was seen
-pub record Passes (r q : ReadView) (base : ℕ) (place : Place) (key : List ℕ) (outcome : Advance) : Type 0 where
+pub record PassesWords (r q : ReadView) (base : ℕ) (place : Place) (key : List ℕ) (outcome : Advance) : Type 0 where
   pub cells : q.cells ≡ r.cells
   pub seen : IsStartOf r.seen q.seen
   pub reader : q.reader ≡ reader_after (finding base place key) (find_at base place key) outcome

@@ -31,8 +31,8 @@ abbrev pub IsSeenRecord : List Put → Rec → Type 0
 IsSeenRecord puts rec = (n : ℕ) × (put : Put) × IsRecOf puts n put rec
 
 -- these bytes are the value of the record's put
-abbrev pub IsValueOf : List Put → Rec → List ℕ → Type 0
-IsValueOf puts rec bytes = (n : ℕ) (put : Put) → IsRecOf puts n put rec → bytes ≡ put.value
+abbrev pub IsValueOfRecord : List Put → Rec → List ℕ → Type 0
+IsValueOfRecord puts rec bytes = (n : ℕ) (put : Put) → IsRecOf puts n put rec → bytes ≡ put.value
 
 -- this is word i of the value of the record's put
 abbrev pub IsPieceOf : List Put → Rec → ℕ → ℕ → Type 0

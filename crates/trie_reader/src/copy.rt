@@ -3,7 +3,7 @@
 ghost use Rattle.std.specs.Prelude.{◌≡◌, ◌+◌, ◌*◌, ◌/◌, ◌<◌, ℕ, length, slice_index, None};
 ghost use Rattle.cell_layout.specs.Words.{byte_of};
 ghost use Rattle.trie_rule.specs.Seats.{ReadsFrom};
-ghost use Rattle.trie_reader.specs.Read.{IsSeenRecord, IsValueOf, IsPieceOf};
+ghost use Rattle.trie_reader.specs.Read.{IsSeenRecord, IsValueOfRecord, IsPieceOf};
 
 use outside::Steps;
 use std::sync::ledger::Ledger;
@@ -60,7 +60,7 @@ pub fn copy_into<L: Ledger>(
     requires record { IsSeenRecord seat.old.knows.seen rec }
     requires size { length out.old ≡ rec.length }
     ensures same { seat.new ≡ seat.old }
-    ensures value { IsValueOf seat.old.knows.seen rec out.new }
+    ensures value { IsValueOfRecord seat.old.knows.seen rec out.new }
     ensures steps { steps.new ≡ steps.old + (rec.length + 7) / 8 }
 {
     'words: for place in 0..rec.length.div_ceil(8) {

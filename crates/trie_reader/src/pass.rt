@@ -6,7 +6,7 @@ ghost use Rattle.std.specs.Prelude.{◌≡◌, ℕ, length};
 ghost use Rattle.trie_rule.specs.Seats.{ReadsFrom};
 ghost use Rattle.trie_image.specs.declared.Place.{Place};
 ghost use Rattle.trie_rule.specs.declared.views.ReadView.{ReadView};
-ghost use Rattle.trie_reader.specs.Passing.{finding, Passes, CountsSteps, IsThere};
+ghost use Rattle.trie_reader.specs.Passing.{finding, PassesWords, CountsSteps, IsThere};
 
 use outside::Steps;
 use std::sync::ledger::Ledger;
@@ -26,7 +26,7 @@ fn load<L: Ledger>(
     requires own { ReadsFrom cells.now seat.old }
     requires at { seat.old.knows.reader ≡ finding base place key.now }
     ensures own { ReadsFrom cells.now seat.new }
-    ensures passes { Passes seat.old.knows seat.new.knows base place key.now result }
+    ensures passes { PassesWords seat.old.knows seat.new.knows base place key.now result }
     ensures steps { CountsSteps steps.old steps.new place (length key.now) result }
     ensures there { IsThere seat.new.knows base key.now result }
 {
@@ -46,8 +46,8 @@ fn load_more<L: Ledger>(
     requires own { ReadsFrom cells.now seat.old }
     requires at { IsThere seat.old.knows base key.now outcome }
     ensures own { ReadsFrom cells.now seat.new }
-    ensures passes { (r : ReadView) (from : Place) → Passes r seat.old.knows base from key.now outcome
-        → Passes r seat.new.knows base from key.now result }
+    ensures passes { (r : ReadView) (from : Place) → PassesWords r seat.old.knows base from key.now outcome
+        → PassesWords r seat.new.knows base from key.now result }
     ensures steps { (n : ℕ) (from : Place) → CountsSteps n steps.old from (length key.now) outcome
         → CountsSteps n steps.new from (length key.now) result }
     ensures there { IsThere seat.new.knows base key.now result }
@@ -71,7 +71,7 @@ pub(crate) fn pass<L: Ledger>(
     requires own { ReadsFrom cells.now seat.old }
     requires at { seat.old.knows.reader ≡ finding base place key.now }
     ensures own { ReadsFrom cells.now seat.new }
-    ensures passes { Passes seat.old.knows seat.new.knows base place key.now result }
+    ensures passes { PassesWords seat.old.knows seat.new.knows base place key.now result }
     ensures steps { CountsSteps steps.old steps.new place (length key.now) result }
     ensures there { IsThere seat.new.knows base key.now result }
 {

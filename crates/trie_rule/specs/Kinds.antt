@@ -97,7 +97,7 @@ module _ {S : Type 0} where
   StoreShows key value st me n me' = me' ≡ (Writes (wrote (write_view_of me.0) key value), me.1)
 
   -- the reader goes on as `now`, and has seen at least what it had, whose values lie in the table
-  pub record GoesOn (me : Me S View) (now : Reader) (seen : List Put) (me' : Me S View) : Type 0 where
+  pub record ReaderGoesOn (me : Me S View) (now : Reader) (seen : List Put) (me' : Me S View) : Type 0 where
     pub more : IsStartOf (read_view_of me.0).seen seen
     pub front : now.front ≤ length seen
     pub next : me' ≡ (Reads (read_view_with (read_view_of me.0) seen now), me.1)
@@ -106,7 +106,7 @@ module _ {S : Type 0} where
   -- Front: the front is raised to the number that was loaded, and a find begins where there is a key
   abbrev pub FrontShows : Option (List ℕ) → Step S → Me S View → ℕ → Me S View → Type 0
   FrontShows key st me n me' = let r : ReadView = read_view_of me.0 in
-      (seen : List Put) × GoesOn me (reader_with (max r.reader.front n) key) seen me'
+      (seen : List Put) × ReaderGoesOn me (reader_with (max r.reader.front n) key) seen me'
 
   -- Look and Copy, where no find is under way: nothing changes, a word of the value of a put that was seen has its bytes,
   -- and what is kept of the last join starts what was seen. Load, where one is: it moves, or ends with a legal answer
@@ -116,7 +116,7 @@ module _ {S : Type 0} where
   LoadShowsBy (Some f) st me n me' = let r : ReadView = read_view_of me.0 in
       let outcome : Advance = outcome_of f.place n f.key in
       (seen : List Put)
-      × GoesOn me (reader_after r.reader f outcome) seen me' × LoadTells seen (4 * r.cells) f outcome
+      × ReaderGoesOn me (reader_after r.reader f outcome) seen me' × LoadTells seen (4 * r.cells) f outcome
 
   abbrev pub LoadShows : Step S → Me S View → ℕ → Me S View → Type 0
   LoadShows st me n me' = LoadShowsBy (read_view_of me.0).reader.find st me n me'

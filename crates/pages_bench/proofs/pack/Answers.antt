@@ -1,6 +1,6 @@
 use Rattle.std.proofs.Common.{rules, ◌≡◌, ◌+◌, ◌≤◌, ◌^◌, ℕ, List, [], length, sym, ◌∙◌, ap, arith}
 use Rattle.bti_nodes.specs.Spelling.{bytes_in}
-use Rattle.page_packer.specs.Tree.{Entry}
+use Rattle.page_packer.specs.Tree.{TrieEntry}
 use Rattle.page_packer.specs.Packing.{with_entry}
 use Rattle.page_packer.proofs.Entries.{last_of_more, bytes_of_more}
 use Rattle.pages_bench.proofs.pack.Goals as goal
@@ -11,7 +11,7 @@ loop-i-preserved c =
     let p = before.packing in
     let key = c.as_slice.result.now in
     let v = bytes_in c.unsigned_payload.result in
-    let entry : Entry = record { key = key; payload = v } in
+    let entry : TrieEntry = record { key = key; payload = v } in
     let size : c.len-length.result ≡ length key = c.len-length.ensures ∙ ap (λ (x : List ℕ). length x) (sym c.as_slice.ensures) in
     let total : c.loop-i.total + c.len-length.result ≤ 2 ^ 30 = search rules in
     record {

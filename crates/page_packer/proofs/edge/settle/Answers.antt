@@ -7,14 +7,14 @@ use Rattle.page_packer.specs.declared.work.Stood.{Stood}
 use Rattle.page_packer.specs.Tree.{Branches, tree, weight, letters}
 use Rattle.page_packer.specs.Sound.{Ascend, SoundUnder, count, counts}
 use Rattle.page_packer.specs.Layout.{lay_under}
-use Rattle.page_packer.specs.Boxes.{branches_of, and_last, node_in, capped, IsSoundLink, IsWeighed}
+use Rattle.page_packer.specs.Boxes.{branches_of, and_last, node_in_box, capped, IsSoundLink, IsWeighed}
 use Rattle.page_packer.proofs.Boxed.{own_weight, sound_last, WeighedBox}
 use Rattle.page_packer.proofs.Laid.{count_is, counts_last, sound_link}
 use Rattle.page_packer.proofs.Settled.{settles, over_weight, no_heavy_leaf}
 use Rattle.page_packer.proofs.edge.settle.Goals as goal
 
 abbrev boxed : Branch → Branches
-boxed b = and_last (branches_of b.before) b.byte (node_in b)
+boxed b = and_last (branches_of b.before) b.byte (node_in_box b)
 
 abbrev SoundBox : Branch → Type 0
 SoundBox b =
@@ -60,7 +60,7 @@ lay-requires-clause-few c =
     let b = c.into_inner-byte.result in
     let view : bs ≡ boxed b = ap branches_of c.in-Last.is ∙ ap boxed (sym c.into_inner-byte.ensures) in
     let before = branches_of b.before in
-    let fewer : counts bs ≡ counts before + count (node_in b) = ap counts view ∙ counts_last before b.byte (node_in b) in
+    let fewer : counts bs ≡ counts before + count (node_in_box b) = ap counts view ∙ counts_last before b.byte (node_in_box b) in
     let n = count_is b.before in
     omega (arith, fewer, n, c.heavy.invariant.few)
 
@@ -75,7 +75,7 @@ lay-requires-clause-room c =
     let b = c.into_inner-byte.result in
     let view : bs ≡ boxed b = ap branches_of c.in-Last.is ∙ ap boxed (sym c.into_inner-byte.ensures) in
     let before = branches_of b.before in
-    let fewer : counts bs ≡ counts before + count (node_in b) = ap counts view ∙ counts_last before b.byte (node_in b) in
+    let fewer : counts bs ≡ counts before + count (node_in_box b) = ap counts view ∙ counts_last before b.byte (node_in_box b) in
     let n = count_is b.before in
     omega (arith, fewer, n, c.heavy.invariant.room)
 
@@ -90,7 +90,7 @@ heavy-smaller-in_ok-push-in-Last c =
     let b = c.into_inner-byte.result in
     let view : bs ≡ boxed b = ap branches_of c.in-Last.is ∙ ap boxed (sym c.into_inner-byte.ensures) in
     let before = branches_of b.before in
-    let fewer : counts bs ≡ counts before + count (node_in b) = ap counts view ∙ counts_last before b.byte (node_in b) in
+    let fewer : counts bs ≡ counts before + count (node_in_box b) = ap counts view ∙ counts_last before b.byte (node_in_box b) in
     let n = count_is b.before in
     omega (arith, fewer)
 
@@ -105,14 +105,14 @@ heavy-preserved-in_ok-push-in-Last c =
     let b = c.into_inner-byte.result in
     let view : bs ≡ boxed b = ap branches_of c.in-Last.is ∙ ap boxed (sym c.into_inner-byte.ensures) in
     let before = branches_of b.before in
-    let fewer : counts bs ≡ counts before + count (node_in b) = ap counts view ∙ counts_last before b.byte (node_in b) in
+    let fewer : counts bs ≡ counts before + count (node_in_box b) = ap counts view ∙ counts_last before b.byte (node_in_box b) in
     let n = count_is b.before in
     let box : WeighedBox b = subst WeighedBox (sym c.into_inner-byte.ensures) (subst IsWeighed c.in-Last.is c.heavy.invariant.weighed) in
-    let last = sound_last before b.byte (node_in b) (subst SoundUnder view sound.2) in
+    let last = sound_last before b.byte (node_in_box b) (subst SoundUnder view sound.2) in
     let front : c.lay.new.work.stood.items ≡ (lay_under before (c.args.start + length c.heavy.work.out)).children =
     c.in_ok-lay-in-Last.ensures.ok.1 ∙ ap (λ (x : List Stood). x ++ (lay_under before (c.args.start + length c.heavy.work.out)).children) c.heavy.invariant.none in
     let done : c.replace-done.result.items ≡ (lay_under before (c.args.start + length c.heavy.work.out)).children = ap (λ (v : Vec Stood Global). v.items) c.replace-done.ensures.value ∙ front in
-    let s = settles c.heavy.work.out c.lay.new.work.out c.heavy.levels.items c.push.new.self.items _ c.args.start b.byte q bs before (node_in b) big view c.in_ok-lay-in-Last.ensures.ok.0 c.in_ok-push-in-Last.ensures.items refl done refl in
+    let s = settles c.heavy.work.out c.lay.new.work.out c.heavy.levels.items c.push.new.self.items _ c.args.start b.byte q bs before (node_in_box b) big view c.in_ok-lay-in-Last.ensures.ok.0 c.in_ok-push-in-Last.ensures.items refl done refl in
     record {
       sound = last.0;
       weighed = box.2;
@@ -134,14 +134,14 @@ heavy-preserved c =
     let b = c.into_inner-byte.result in
     let view : bs ≡ boxed b = ap branches_of c.in-Last.is ∙ ap boxed (sym c.into_inner-byte.ensures) in
     let before = branches_of b.before in
-    let fewer : counts bs ≡ counts before + count (node_in b) = ap counts view ∙ counts_last before b.byte (node_in b) in
+    let fewer : counts bs ≡ counts before + count (node_in_box b) = ap counts view ∙ counts_last before b.byte (node_in_box b) in
     let n = count_is b.before in
     let box : WeighedBox b = subst WeighedBox (sym c.into_inner-byte.ensures) (subst IsWeighed c.in-Last.is c.heavy.invariant.weighed) in
-    let last = sound_last before b.byte (node_in b) (subst SoundUnder view sound.2) in
+    let last = sound_last before b.byte (node_in_box b) (subst SoundUnder view sound.2) in
     let front : c.lay.new.work.stood.items ≡ (lay_under before (c.args.start + length c.heavy.work.out)).children =
     c.in_ok-lay-in-Last.ensures.ok.1 ∙ ap (λ (x : List Stood). x ++ (lay_under before (c.args.start + length c.heavy.work.out)).children) c.heavy.invariant.none in
     let done : c.replace-done.result.items ≡ (lay_under before (c.args.start + length c.heavy.work.out)).children = ap (λ (v : Vec Stood Global). v.items) c.replace-done.ensures.value ∙ front in
-    let s = settles c.heavy.work.out c.lay.new.work.out c.heavy.levels.items c.push.new.self.items _ c.args.start b.byte q bs before (node_in b) big view c.in_ok-lay-in-Last.ensures.ok.0 c.in_ok-push-in-Last.ensures.items refl done refl in
+    let s = settles c.heavy.work.out c.lay.new.work.out c.heavy.levels.items c.push.new.self.items _ c.args.start b.byte q bs before (node_in_box b) big view c.in_ok-lay-in-Last.ensures.ok.0 c.in_ok-push-in-Last.ensures.items refl done refl in
     record {
       sound = last.0;
       weighed = box.2;

@@ -2,7 +2,7 @@ use Rattle.std.proofs.Common.{◌≡◌, length, sym, ◌∙◌, ap, subst, arit
 use Rattle.page_packer.specs.declared.boxes.Branch.{Branch}
 use Rattle.page_packer.specs.Tree.{Branches}
 use Rattle.page_packer.specs.Sound.{Ascend, SoundUnder, counts}
-use Rattle.page_packer.specs.Boxes.{branches_of, and_last, node_in}
+use Rattle.page_packer.specs.Boxes.{branches_of, and_last, node_in_box}
 use Rattle.page_packer.specs.Levels.{tree_in}
 use Rattle.page_packer.proofs.Laid.{sound_link, count_is}
 use Rattle.page_packer.proofs.Boxed.{KeptBox, kept}
@@ -10,7 +10,7 @@ use Rattle.page_packer.proofs.Grows.{one, one_laid}
 use Rattle.page_packer.proofs.grow.lay_whole.Goals as goal
 
 abbrev boxed : Branch → Branches
-boxed b = and_last (branches_of b.before) b.byte (node_in b)
+boxed b = and_last (branches_of b.before) b.byte (node_in_box b)
 
 pub lay-requires-clause-sound : goal.lay-requires-clause-sound
 lay-requires-clause-sound c =

@@ -7,7 +7,7 @@ use Rattle.page_packer.specs.declared.work.Stood.{Stood}
 use Rattle.page_packer.specs.Tree.{Branches, weight, letters}
 use Rattle.page_packer.specs.Sound.{Ascend, SoundUnder}
 use Rattle.page_packer.specs.Layout.{lay_under, seen_from, node_at_place}
-use Rattle.page_packer.specs.Boxes.{branches_of, and_last, node_in, capped, count_in, IsSoundLink, IsWeighed}
+use Rattle.page_packer.specs.Boxes.{branches_of, and_last, node_in_box, capped, count_in, IsSoundLink, IsWeighed}
 use Rattle.page_packer.specs.Work.{closed_alone}
 use Rattle.page_packer.proofs.Pages.{laid_letters, node_within, wider}
 use Rattle.page_packer.proofs.Length.{lay_between}
@@ -17,7 +17,7 @@ use Rattle.page_packer.proofs.Laid.{kids_are, laid_more, laid_short, heavy_close
 use Rattle.page_packer.proofs.lay.+lay.Goals as goal
 
 abbrev boxed : Branch → Branches
-boxed b = and_last (branches_of b.before) b.byte (node_in b)
+boxed b = and_last (branches_of b.before) b.byte (node_in_box b)
 
 -- a box that can be laid
 abbrev SoundBox : Branch → Type 0
@@ -33,7 +33,7 @@ returns-then-branch-le4096-clause-ok t c =
     let b = c.deref-branch.result.now in
     let view : branches_of c.args.link.now ≡ boxed b = ap branches_of c.in-Last.is ∙ ap boxed (sym c.deref-branch.ensures) in
     let first = c.in_ok-lay-in-Last.ensures.ok in
-    on_ok c.lay_light.result _ _ (λ e. laid_more c.args.work.now.out c.lay.new.work.out c.lay_light.new.work.out c.args.work.now.stood.items c.lay.new.work.stood.items c.lay_light.new.work.stood.items c.args.start b.byte (node_in b)
+    on_ok c.lay_light.result _ _ (λ e. laid_more c.args.work.now.out c.lay.new.work.out c.lay_light.new.work.out c.args.work.now.stood.items c.lay.new.work.stood.items c.lay_light.new.work.stood.items c.args.start b.byte (node_in_box b)
     (branches_of b.before) (branches_of c.args.link.now) first.0 first.1 e.0 e.1 view) c.lay_light.ensures
 
 pub returns-then-branch-le4096-clause-short : goal.returns-then-branch-le4096-clause-short
@@ -42,7 +42,7 @@ returns-then-branch-le4096-clause-short t c =
     let view : branches_of c.args.link.now ≡ boxed b = ap branches_of c.in-Last.is ∙ ap boxed (sym c.deref-branch.ensures) in
     let first = c.in_ok-lay-in-Last.ensures.ok in
     on_ok c.lay_light.result _ _ (λ e. laid_short c.args.link.now c.args.work.now.out c.lay_light.new.work.out (c.args.start + length c.args.work.now.out) c.requires.sound c.requires.few
-    (laid_more c.args.work.now.out c.lay.new.work.out c.lay_light.new.work.out c.args.work.now.stood.items c.lay.new.work.stood.items c.lay_light.new.work.stood.items c.args.start b.byte (node_in b) (branches_of b.before)
+    (laid_more c.args.work.now.out c.lay.new.work.out c.lay_light.new.work.out c.args.work.now.stood.items c.lay.new.work.stood.items c.lay_light.new.work.stood.items c.args.start b.byte (node_in_box b) (branches_of b.before)
     (branches_of c.args.link.now) first.0 first.1 e.0 e.1 view).0) c.lay_light.ensures
 
 pub close_in_page-requires-clause-before : goal.close_in_page-requires-clause-before
@@ -109,13 +109,13 @@ returns-in_ok-lay-in-Last-2-clause-ok t c =
     let n : base ≡ length s1 = search rules in
     let view : branches_of c.args.link.now ≡ boxed b = ap branches_of c.in-Last.is ∙ ap boxed (sym c.deref-branch.ensures) in
     let weighed : WeighedBox b = subst WeighedBox (sym c.deref-branch.ensures) (subst IsWeighed c.in-Last.is c.requires.weighed) in
-    let big : 4096 < weight (node_in b) = omega (arith, c.if-branch-le4096.false, weighed.0) in
+    let big : 4096 < weight (node_in_box b) = omega (arith, c.if-branch-le4096.false, weighed.0) in
     let first = c.in_ok-lay-in-Last.ensures.ok in
     let below = c.in_ok-lay-in-Last-2.ensures.ok in
     let paid = c.payload_bytes.ensures.bytes in
     on_both c.close_in_page.result _ _ _ (λ e f. (let own = heavy_closed c.lay.new.work.out out2 out3 s1 s2 s3 c.args.start base at b.byte q (branches_of b.children) big n below.0 below.1 (ap (λ k. c.args.start + k) c.len.ensures)
     (e ∙ ap (λ x. out2 ++ (closed_alone x (drop base s2) at).bytes) paid) (f ∙ ap (λ x. take base s2 ++ record { byte = b.byte; position = (closed_alone x (drop base s2) at).root } ∷ []) paid) in
-    laid_more c.args.work.now.out c.lay.new.work.out out3 c.args.work.now.stood.items s1 s3 c.args.start b.byte (node_in b) (branches_of b.before) (branches_of c.args.link.now) first.0 first.1 own.0 own.1 view))
+    laid_more c.args.work.now.out c.lay.new.work.out out3 c.args.work.now.stood.items s1 s3 c.args.start b.byte (node_in_box b) (branches_of b.before) (branches_of c.args.link.now) first.0 first.1 own.0 own.1 view))
     c.close_in_page.ensures.bytes c.close_in_page.ensures.stood
 
 pub returns-in_ok-lay-in-Last-2-clause-short : goal.returns-in_ok-lay-in-Last-2-clause-short
@@ -132,12 +132,12 @@ returns-in_ok-lay-in-Last-2-clause-short t c =
     let n : base ≡ length s1 = search rules in
     let view : branches_of c.args.link.now ≡ boxed b = ap branches_of c.in-Last.is ∙ ap boxed (sym c.deref-branch.ensures) in
     let weighed : WeighedBox b = subst WeighedBox (sym c.deref-branch.ensures) (subst IsWeighed c.in-Last.is c.requires.weighed) in
-    let big : 4096 < weight (node_in b) = omega (arith, c.if-branch-le4096.false, weighed.0) in
+    let big : 4096 < weight (node_in_box b) = omega (arith, c.if-branch-le4096.false, weighed.0) in
     let first = c.in_ok-lay-in-Last.ensures.ok in
     let below = c.in_ok-lay-in-Last-2.ensures.ok in
     let paid = c.payload_bytes.ensures.bytes in
     on_both c.close_in_page.result _ _ _ (λ e f. (let own = heavy_closed c.lay.new.work.out out2 out3 s1 s2 s3 c.args.start base at b.byte q (branches_of b.children) big n below.0 below.1 (ap (λ k. c.args.start + k) c.len.ensures)
     (e ∙ ap (λ x. out2 ++ (closed_alone x (drop base s2) at).bytes) paid) (f ∙ ap (λ x. take base s2 ++ record { byte = b.byte; position = (closed_alone x (drop base s2) at).root } ∷ []) paid) in
     laid_short c.args.link.now c.args.work.now.out out3 (c.args.start + length c.args.work.now.out) c.requires.sound c.requires.few
-    (laid_more c.args.work.now.out c.lay.new.work.out out3 c.args.work.now.stood.items s1 s3 c.args.start b.byte (node_in b) (branches_of b.before) (branches_of c.args.link.now) first.0 first.1 own.0 own.1 view).0))
+    (laid_more c.args.work.now.out c.lay.new.work.out out3 c.args.work.now.stood.items s1 s3 c.args.start b.byte (node_in_box b) (branches_of b.before) (branches_of c.args.link.now) first.0 first.1 own.0 own.1 view).0))
     c.close_in_page.ensures.bytes c.close_in_page.ensures.stood

@@ -4,7 +4,7 @@ use Rattle.bti_nodes.specs.Spelling.{bytes_in, IsNode, zeros}
 use Rattle.page_packer.specs.declared.work.Stood.{Stood}
 use Rattle.page_packer.specs.Tree.{weight, weights}
 use Rattle.page_packer.specs.Layout.{gap, packed_under, seen_from, node_at_place}
-use Rattle.page_packer.specs.Boxes.{branches_of, node_in}
+use Rattle.page_packer.specs.Boxes.{branches_of, node_in_box}
 use Rattle.page_packer.proofs.Pages.{under_between, under_len, packed_letters}
 use Rattle.page_packer.proofs.Length.{zeros_len}
 use Rattle.page_packer.proofs.Joined.{all_before, node_fine, weight_is}
@@ -73,10 +73,10 @@ returns c =
     let out2 = c.pack.new.work.out in
     let at = c.args.start + c.len-2.result in
     let n : c.len-base.result ≡ length c.args.work.now.stood.items = search rules in
-    let small : weight (node_in b) ≤ 4096 = omega (arith, c.requires.light, c.requires.weight) in
+    let small : weight (node_in_box b) ≤ 4096 = omega (arith, c.requires.light, c.requires.weight) in
     let place : c.args.start + c.len.result ≡ c.args.start + length out0 = ap (λ k. c.args.start + k) c.len.ensures in
-    let size : c.from.result ≡ weight (node_in b) = c.from.ensures ∙ c.requires.weight in
-    let room : c.gap.result ≡ gap (c.args.start + length out0) (weight (node_in b)) =
+    let size : c.from.result ≡ weight (node_in_box b) = c.from.ensures ∙ c.requires.weight in
+    let room : c.gap.result ≡ gap (c.args.start + length out0) (weight (node_in_box b)) =
     c.gap.ensures.value ∙ ap (λ p. gap p c.from.result) place ∙ ap (λ w. gap (c.args.start + length out0) w) size in
     light_closed out0 c.put_zeros.new.out out2 c.close.new.work.out c.args.work.now.stood.items s1 c.close.new.work.stood.items c.push.new.self.items c.args.start c.len-base.result c.gap.result at b.byte (bytes_in b.payload)
     (branches_of b.children) small room c.in_ok-put_zeros.ensures n c.in_ok-pack.ensures.ok.0 c.in_ok-pack.ensures.ok.1 (ap (λ k. c.args.start + k) c.len-2.ensures)

@@ -1,14 +1,14 @@
 use Rattle.std.proofs.Common.{◌≡◌, ◌≢◌, ℕ, List, ◌∷◌, ◌++◌, [], sym, ap, ◌∙◌, arith}
 use Rattle.trie_image.specs.Image.{reading}
 use Rattle.shard_freeze.specs.Listing.{value_of}
-use Rattle.shard_freeze.specs.Walk.{left_at}
+use Rattle.shard_freeze.specs.Walk.{left_on_way}
 use Rattle.shard_freeze.proofs.Gives.{end_left, at_record, record_of_content, record_given}
 use Rattle.shard_freeze.proofs.Moves.{record_at}
 use Rattle.shard_freeze.proofs.cursor.list_next.Goals as goal
 
 pub returns-then-walk-eq0-clause-gives : goal.returns-then-walk-eq0-clause-gives
 returns-then-walk-eq0-clause-gives c = let s = c.settle.new.self in let w = c.args.words.now in let none : s.here ≡ 0 = omega arith in
-    let ended : left_at (reading w.words) (value_of w.made) s.key.items s.below.items s.top s.here ≡ [] = end_left w.words (value_of w.made) s.key.items s.below.items s.top s.here c.in_ok-settle.ensures.settled none in
+    let ended : left_on_way (reading w.words) (value_of w.made) s.key.items s.below.items s.top s.here ≡ [] = end_left w.words (value_of w.made) s.key.items s.below.items s.top s.here c.in_ok-settle.ensures.settled none in
     (sym (c.settle.ensures.left (value_of w.made)) ∙ ended, ended)
 
 pub copy_value-requires-clause-record : goal.copy_value-requires-clause-record
@@ -23,4 +23,4 @@ returns-clause-gives c = let s = c.settle.new.self in let w = c.args.words.now i
     let key : c.extend.new.self ≡ s.key.items = c.in_ok-extend.ensures.ok ∙ ap (λ (x : List ℕ). x ++ c.as_slice.result.now) c.truncate.ensures ∙ c.as_slice.ensures.value in
     sym (c.settle.ensures.left (value_of w.made))
     ∙ record_given w.words w.made i.0 i.1 i.2 s.key.items s.below.items s.top s.here (c.settle.ensures.stands i.2.ledger i.0 i.2.image) ne (at_record s.below.items s.top s.here c.in_ok-settle.ensures.settled ne) c.copy_value.new.out c.in_ok-copy_value.ensures
-    ∙ ap (λ (k : List ℕ). (k, c.copy_value.new.out) ∷ left_at (reading w.words) (value_of w.made) s.key.items s.below.items s.top 0) (sym key)
+    ∙ ap (λ (k : List ℕ). (k, c.copy_value.new.out) ∷ left_on_way (reading w.words) (value_of w.made) s.key.items s.below.items s.top 0) (sym key)

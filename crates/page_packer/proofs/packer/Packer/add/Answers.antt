@@ -1,12 +1,12 @@
 use Rattle.std.proofs.Common.{rules, ◌≡◌, ◌+◌, ◌^◌, ◌<◌, ◌≤◌, ℕ, List, Ok, length, refl, sym, ◌∙◌, ap, subst, arith}
 use Rattle.bti_nodes.specs.Spelling.{bytes_in}
 use Rattle.page_packer.specs.declared.edge.Whole.{Whole}
-use Rattle.page_packer.specs.Tree.{Entry, IsBelow}
+use Rattle.page_packer.specs.Tree.{TrieEntry, IsBelow}
 use Rattle.page_packer.specs.Sound.{IsFull, Sound, count}
 use Rattle.page_packer.specs.Edge.{Grown, Frontier, whole, closes, with_more, with_one, more_of}
 use Rattle.page_packer.specs.Boxes.{IsWeighed}
 use Rattle.page_packer.specs.Levels.{tree_in, edge_over, last_over}
-use Rattle.page_packer.specs.Packing.{Packing, AppendsSome, bytes_for}
+use Rattle.page_packer.specs.Packing.{Packing, AppendsSome, packing_bytes_for}
 use Rattle.outside.specs.declared.store.FileId.{FileId}
 use Rattle.page_packer.specs.Packs.{frontier_of, Packs}
 use Rattle.page_packer.proofs.Added.{all_bytes, take_len}
@@ -139,14 +139,14 @@ returns-clause-added g c =
     let edge : edge_over ms (whole u) ≡ (more_of (frontier_of s) key v).edge = c.in_ok-self.ensures.edge ∙ ap (λ (x : Grown). x.edge) more in
     let q : Frontier = record { file = s.file; start = s.start; end_ = s.end_ + c.len.result; bytes = s.bytes + length key; last = last_over ms u; edge = edge_over ms (whole u) } in
     let packs = λ (x : Packing) (k : Packs s x). next_packs (frontier_of s) q x.entries key v ms u k.reached above bytes paid short few refl edge (ap (λ n. s.end_ + n) len) refl refl refl in
-    let law = λ (x : Packing) (k : Packs s x). (frontier_grows (frontier_of s) x.entries key v k.reached above bytes paid short few).1 ∙ ap (λ n. bytes_for (record x { start = n }) key v) k.start in
+    let law = λ (x : Packing) (k : Packs s x). (frontier_grows (frontier_of s) x.entries key v k.reached above bytes paid short few).1 ∙ ap (λ n. packing_bytes_for (record x { start = n }) key v) k.start in
     let files = g.K.Store.files c.args.store.now in
     let now = g.K.Store.files c.append_some.new.store in
     let w : AppendsSome {T = Unit {0}} {E = PackError} files now s.file (Ok tt) (more_of (frontier_of s) key v).bytes = search rules in
     record {
       packs = λ x k. record { file = k.file; start = k.start; reached = packs x k; weighed = c.in_ok-self.ensures.weighed; place = k.place; out = c.truncate.ensures; stood = c.in_ok-self.ensures.stood };
       appends = λ x k.
-          subst (λ (f : FileId). AppendsSome {T = Unit {0}} {E = PackError} files now f (Ok tt) (bytes_for x key v)) k.file
+          subst (λ (f : FileId). AppendsSome {T = Unit {0}} {E = PackError} files now f (Ok tt) (packing_bytes_for x key v)) k.file
           (subst (λ (b : List ℕ). AppendsSome {T = Unit {0}} {E = PackError} files now s.file (Ok tt) b) (law x k) w);
     }
 
@@ -168,13 +168,13 @@ returns-in_err-append_some-clause-added g c =
     let paid : 0 < length v = omega (arith, size, c.requires.paid) in
     let short : length v ≤ 7 = omega (arith, size, c.requires.short) in
     let bytes = all_bytes key c.type_inv.key in
-    let law = λ (x : Packing) (k : Packs s x). (frontier_grows (frontier_of s) x.entries key v k.reached above bytes paid short few).1 ∙ ap (λ n. bytes_for (record x { start = n }) key v) k.start in
+    let law = λ (x : Packing) (k : Packs s x). (frontier_grows (frontier_of s) x.entries key v k.reached above bytes paid short few).1 ∙ ap (λ n. packing_bytes_for (record x { start = n }) key v) k.start in
     let files = g.K.Store.files c.args.store.now in
     let now = g.K.Store.files c.append_some.new.store in
     let w : AppendsSome {T = Unit {0}} {E = PackError} files now s.file c.from_residual-in_err-append_some.result (more_of (frontier_of s) key v).bytes = search rules in
     record {
       packs = search rules;
       appends = λ x k.
-          subst (λ (f : FileId). AppendsSome {T = Unit {0}} {E = PackError} files now f c.from_residual-in_err-append_some.result (bytes_for x key v)) k.file
+          subst (λ (f : FileId). AppendsSome {T = Unit {0}} {E = PackError} files now f c.from_residual-in_err-append_some.result (packing_bytes_for x key v)) k.file
           (subst (λ (b : List ℕ). AppendsSome {T = Unit {0}} {E = PackError} files now s.file c.from_residual-in_err-append_some.result b) (law x k) w);
     }

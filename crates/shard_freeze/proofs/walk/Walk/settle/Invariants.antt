@@ -1,9 +1,9 @@
-use Rattle.shard_freeze.specs.Walk.{Stands, SameLeft, size_of}
+use Rattle.shard_freeze.specs.Walk.{StandsInTrie, SameLeft, size_of}
 use Rattle.shard_freeze.proofs.walk.Walk.settle.Given as goal
 
 abbrev pub invariant-steps : goal.invariant-steps
 invariant-steps l = record {
-  stands : Stands l.words.words l.self;
+  stands : StandsInTrie l.words.words l.self;
   left : SameLeft l.words.words l.fn.self l.self;
 }
 
