@@ -10,7 +10,7 @@ use Rattle.std.specs.Cmp.Lexicographic.{slice_cmp}
 use Rattle.bti_nodes.specs.declared.node.Child.{Child}
 use Rattle.bti_nodes.specs.Grammar.{Climbs}
 use Rattle.bti_nodes.specs.Trie.{Path, longer, own, of_places, paths_by, paths}
-use Rattle.bti_reader.specs.Meaning.{IsPathBefore, PathsAscend, PathsAreInOrder, first_that, or_path, is_above, path_above}
+use Rattle.bti_reader.specs.Meaning.{IsPathBefore, PathsAscend, PathsAreInOrder, first_path_of, or_path, is_above, path_above}
 use Rattle.bti_reader.proofs.Split.{Go, Starts, cons_ok, none_ok, all_above, all_start}
 use Rattle.bti_reader.proofs.Lists.{all_imply, cmp_same, nat_less, find_append, find_none, find_all}
 use Rattle.bti_reader.proofs.Sound.{stood}
@@ -108,7 +108,7 @@ after_it : (xs ys : List Path) (p : Path) → PathsAscend (xs ++ p ∷ ys) → A
 after_it [] ys p h = h.0
 after_it (x ∷ xs) ys p h = after_it xs ys p h.1
 
-next_is : (xs ys : List Path) (p : Path) → PathsAscend (xs ++ p ∷ ys) → find (path_above false p.path) (xs ++ p ∷ ys) ≡ first_that ys
+next_is : (xs ys : List Path) (p : Path) → PathsAscend (xs ++ p ∷ ys) → find (path_above false p.path) (xs ++ p ∷ ys) ≡ first_path_of ys
 next_is xs ys p h =
     let t = path_above false p.path in
     find_append t xs (p ∷ ys)

@@ -15,7 +15,7 @@ use Rattle.bti_reader.specs.declared.ask.Turn.{Turn}
 use Rattle.bti_reader.specs.declared.ask.Hit.{Hit}
 use Rattle.bti_reader.specs.declared.nearest.Spare.{Spare}
 use Rattle.bti_reader.specs.Searches.{Answer, deeper, or_next, asked, in_child, own_or, exact_from, first_by, last_by, first_path, last_path, below_from, above_from, exact_in}
-use Rattle.bti_reader.specs.Steps.{hit_at, path_number, turn_in, answer_of, AnswersSearch, question_at, kept, spare_answer, SpareFits}
+use Rattle.bti_reader.specs.Steps.{hit_at, payload_number, turn_in, answer_of, SearchAnswers, question_at, kept_spare, spare_answer, SpareFits}
 use Rattle.bti_reader.proofs.Turns.{first_back, last_back}
 use Rattle.bti_reader.proofs.Sound.{sound, first_is_some, last_is_some}
 
@@ -41,12 +41,12 @@ with_turn (Ok t) go = go t
 
 pub own_reply : (part : Part) (passed position : ℕ) (payload : List ℕ) (x : Answer) → answer_of part passed (own_or position payload x) ≡ hit_or (hit_at part passed position payload) (answer_of part passed x)
 own_reply part passed position [] x = refl
-own_reply part passed position (y ∷ ys) x = let e : passed + 0 ≡ passed = omega arith in ap (λ n. Ok (Some (record { path_len = n; node = position; number = path_number part (y ∷ ys) }))) e
+own_reply part passed position (y ∷ ys) x = let e : passed + 0 ≡ passed = omega arith in ap (λ n. Ok (Some (record { path_len = n; node = position; number = payload_number part (y ∷ ys) }))) e
 
 deeper_reply : (part : Part) (passed b : ℕ) (a : Answer) → answer_of part passed (deeper b a) ≡ answer_of part (passed + 1) a
 deeper_reply part passed b (Err w) = refl
 deeper_reply part passed b (Ok None) = refl
-deeper_reply part passed b (Ok (Some p)) = let e : passed + suc (length p.path) ≡ (passed + 1) + length p.path = omega arith in ap (λ n. Ok (Some (record { path_len = n; node = p.node; number = path_number part p.payload }))) e
+deeper_reply part passed b (Ok (Some p)) = let e : passed + suc (length p.path) ≡ (passed + 1) + length p.path = omega arith in ap (λ n. Ok (Some (record { path_len = n; node = p.node; number = payload_number part p.payload }))) e
 
 pub child_reply : (part : Part) (passed position : ℕ) (c : Option Child) (go : ℕ → Answer) (x : Answer) → answer_of part passed (in_child c position go x) ≡ child_or c (λ d. answer_of part (passed + 1) (go (position - d))) (answer_of part passed x)
 child_reply part passed position None go x = refl
@@ -68,7 +68,7 @@ then_some part passed (Ok None) next h = absurd (h refl)
 then_some part passed (Ok (Some p)) next h = refl
 
 -- the answer of a call of ask, and that of the search
-pub err_reply : (e : DataError) (x : Result Turn DataError) (go : Turn → Reply) → AnswersSearch {A = Turn} (Err e) x → AnswersSearch {A = Option Hit} (Err e) (with_turn x go)
+pub err_reply : (e : DataError) (x : Result Turn DataError) (go : Turn → Reply) → SearchAnswers {A = Turn} (Err e) x → SearchAnswers {A = Option Hit} (Err e) (with_turn x go)
 err_reply StoreFault x go h = tt
 err_reply NoMemory x go h = tt
 err_reply (Damaged d) x go h = ap (λ r. with_turn r go) h
@@ -153,8 +153,8 @@ last_is part file position passed = ap (answer_of part passed) (last_step file p
     by go (Err w) = refl
     by go (Ok n) = child_reply part passed position (greatest_child n.places) go (own_or position n.payload (Ok None)) ∙ ap (child_or (greatest_child n.places) (λ d. answer_of part (passed + 1) (go (position - d)))) (own_reply part passed position n.payload (Ok None))
 
-same_reply : (r : Reply) (x y : Reply) → x ≡ y → AnswersSearch r x → AnswersSearch r y
-same_reply r x y e h = subst (AnswersSearch r) e h
+same_reply : (r : Reply) (x y : Reply) → x ≡ y → SearchAnswers r x → SearchAnswers r y
+same_reply r x y e h = subst (SearchAnswers r) e h
 
 -- the ends of exact
 exact_here : (part : Part) (file : List ℕ) (root position passed : ℕ) (rest key : List ℕ) (q : Question) → q ≡ question_at rest → answer_of part passed (exact_from file position rest) ≡ answer_of part 0 (exact_from file root key)
@@ -163,14 +163,14 @@ unfolding exact_in
 exact_here part file root position passed rest key q same inv =
     ap (λ q. with_turn (turn_in part q passed position (node_in file position)) (exact_turn part file position passed rest)) same ∙ sym (exact_is part file position passed rest) ∙ inv
 
-pub exact_err : (part : Part) (file : List ℕ) (root position passed : ℕ) (rest key : List ℕ) (q : Question) (e : DataError) → q ≡ question_at rest → AnswersSearch {A = Turn} (Err e) (turn_in part q passed position (node_in file position))
-    → answer_of part passed (exact_from file position rest) ≡ answer_of part 0 (exact_from file root key) → AnswersSearch {A = Option Hit} (Err e) (answer_of part 0 (exact_in file root key))
+pub exact_err : (part : Part) (file : List ℕ) (root position passed : ℕ) (rest key : List ℕ) (q : Question) (e : DataError) → q ≡ question_at rest → SearchAnswers {A = Turn} (Err e) (turn_in part q passed position (node_in file position))
+    → answer_of part passed (exact_from file position rest) ≡ answer_of part 0 (exact_from file root key) → SearchAnswers {A = Option Hit} (Err e) (answer_of part 0 (exact_in file root key))
 exact_err part file root position passed rest key q e same h inv =
     same_reply (Err e) _ _ (exact_here part file root position passed rest key q same inv) (err_reply e (turn_in part q passed position (node_in file position)) (exact_turn part file position passed rest) h)
 
 -- what a turn says, where the search ends with it
-pub exact_ends : (part : Part) (file : List ℕ) (root position passed : ℕ) (rest key : List ℕ) (q : Question) (t : Turn) (r : Option Hit) → q ≡ question_at rest → AnswersSearch (Ok t) (turn_in part q passed position (node_in file position))
-    → exact_turn part file position passed rest t ≡ Ok r → answer_of part passed (exact_from file position rest) ≡ answer_of part 0 (exact_from file root key) → AnswersSearch (Ok r) (answer_of part 0 (exact_in file root key))
+pub exact_ends : (part : Part) (file : List ℕ) (root position passed : ℕ) (rest key : List ℕ) (q : Question) (t : Turn) (r : Option Hit) → q ≡ question_at rest → SearchAnswers (Ok t) (turn_in part q passed position (node_in file position))
+    → exact_turn part file position passed rest t ≡ Ok r → answer_of part passed (exact_from file position rest) ≡ answer_of part 0 (exact_from file root key) → SearchAnswers (Ok r) (answer_of part 0 (exact_in file root key))
 exact_ends part file root position passed rest key q t r same p ends inv =
     sym (exact_here part file root position passed rest key q same inv) ∙ ap (λ x. with_turn x (exact_turn part file position passed rest)) p ∙ ends
 
@@ -193,26 +193,26 @@ none_turn part file position passed (b ∷ key) t h e =
     ∙ ap (λ c. child_or c (λ d. answer_of part (passed + 1) (exact_from file (position - d) key)) (Ok None)) e
 
 -- the ends and the steps of the ways down
-pub first_err : (part : Part) (file : List ℕ) (start position passed taken : ℕ) (e : DataError) → AnswersSearch {A = Turn} (Err e) (turn_in part Least passed position (node_in file position))
-    → answer_of part passed (first_path file position) ≡ answer_of part taken (first_path file start) → AnswersSearch {A = Option Hit} (Err e) (answer_of part taken (first_path file start))
+pub first_err : (part : Part) (file : List ℕ) (start position passed taken : ℕ) (e : DataError) → SearchAnswers {A = Turn} (Err e) (turn_in part Least passed position (node_in file position))
+    → answer_of part passed (first_path file position) ≡ answer_of part taken (first_path file start) → SearchAnswers {A = Option Hit} (Err e) (answer_of part taken (first_path file start))
 first_err part file start position passed taken e h inv =
     same_reply (Err e) _ _ (sym (first_is part file position passed) ∙ inv) (err_reply e (turn_in part Least passed position (node_in file position)) (first_turn part file position passed) h)
 
-pub first_hit : (part : Part) (file : List ℕ) (start position passed taken : ℕ) (t : Turn) → AnswersSearch (Ok t) (turn_in part Least passed position (node_in file position)) → IsSome t.hit
-    → answer_of part passed (first_path file position) ≡ answer_of part taken (first_path file start) → AnswersSearch (Ok t.hit) (answer_of part taken (first_path file start))
+pub first_hit : (part : Part) (file : List ℕ) (start position passed taken : ℕ) (t : Turn) → SearchAnswers (Ok t) (turn_in part Least passed position (node_in file position)) → IsSome t.hit
+    → answer_of part passed (first_path file position) ≡ answer_of part taken (first_path file start) → SearchAnswers (Ok t.hit) (answer_of part taken (first_path file start))
 first_hit part file start position passed taken t p h inv =
     sym inv ∙ first_is part file position passed ∙ ap (λ x. with_turn x (first_turn part file position passed)) p
     ∙ some_hit t.hit (child_or t.child (λ d. answer_of part (passed + 1) (first_path file (position - d))) (Ok None)) h
 
-pub first_on : (part : Part) (file : List ℕ) (start position passed taken : ℕ) (t : Turn) (c : Child) → AnswersSearch (Ok t) (turn_in part Least passed position (node_in file position)) → t.hit ≡ None → t.child ≡ Some c
+pub first_on : (part : Part) (file : List ℕ) (start position passed taken : ℕ) (t : Turn) (c : Child) → SearchAnswers (Ok t) (turn_in part Least passed position (node_in file position)) → t.hit ≡ None → t.child ≡ Some c
     → answer_of part passed (first_path file position) ≡ answer_of part taken (first_path file start) → answer_of part (passed + 1) (first_path file (position - c.distance)) ≡ answer_of part taken (first_path file start)
 first_on part file start position passed taken t c p h k inv =
     let go : ℕ → Reply = λ d. answer_of part (passed + 1) (first_path file (position - d)) in
     sym (sym inv ∙ first_is part file position passed ∙ ap (λ x. with_turn x (first_turn part file position passed)) p
     ∙ ap (λ n. hit_or n (child_or t.child go (Ok None))) h ∙ ap (λ c. child_or c go (Ok None)) k)
 
-pub last_err : (part : Part) (file : List ℕ) (start position passed taken : ℕ) (e : DataError) → AnswersSearch {A = Turn} (Err e) (turn_in part Greatest passed position (node_in file position))
-    → answer_of part passed (last_path file position) ≡ answer_of part taken (last_path file start) → AnswersSearch {A = Option Hit} (Err e) (answer_of part taken (last_path file start))
+pub last_err : (part : Part) (file : List ℕ) (start position passed taken : ℕ) (e : DataError) → SearchAnswers {A = Turn} (Err e) (turn_in part Greatest passed position (node_in file position))
+    → answer_of part passed (last_path file position) ≡ answer_of part taken (last_path file start) → SearchAnswers {A = Option Hit} (Err e) (answer_of part taken (last_path file start))
 last_err part file start position passed taken e h inv =
     same_reply (Err e) _ _ (sym (last_is part file position passed) ∙ inv) (err_reply e (turn_in part Greatest passed position (node_in file position)) (last_turn part file position passed) h)
 
@@ -220,14 +220,14 @@ own_hit : (hit : Option Hit) → hit_or hit (Ok None) ≡ Ok hit
 own_hit None = refl
 own_hit (Some hit) = refl
 
-pub last_hit : (part : Part) (file : List ℕ) (start position passed taken : ℕ) (t : Turn) → AnswersSearch (Ok t) (turn_in part Greatest passed position (node_in file position)) → t.child ≡ None
-    → answer_of part passed (last_path file position) ≡ answer_of part taken (last_path file start) → AnswersSearch (Ok t.hit) (answer_of part taken (last_path file start))
+pub last_hit : (part : Part) (file : List ℕ) (start position passed taken : ℕ) (t : Turn) → SearchAnswers (Ok t) (turn_in part Greatest passed position (node_in file position)) → t.child ≡ None
+    → answer_of part passed (last_path file position) ≡ answer_of part taken (last_path file start) → SearchAnswers (Ok t.hit) (answer_of part taken (last_path file start))
 last_hit part file start position passed taken t p h inv =
     let go : ℕ → Reply = λ d. answer_of part (passed + 1) (last_path file (position - d)) in
     sym inv ∙ last_is part file position passed ∙ ap (λ x. with_turn x (last_turn part file position passed)) p
     ∙ ap (λ c. child_or c go (hit_or t.hit (Ok None))) h ∙ own_hit t.hit
 
-pub last_on : (part : Part) (file : List ℕ) (start position passed taken : ℕ) (t : Turn) (c : Child) → AnswersSearch (Ok t) (turn_in part Greatest passed position (node_in file position)) → t.child ≡ Some c
+pub last_on : (part : Part) (file : List ℕ) (start position passed taken : ℕ) (t : Turn) (c : Child) → SearchAnswers (Ok t) (turn_in part Greatest passed position (node_in file position)) → t.child ≡ Some c
     → answer_of part passed (last_path file position) ≡ answer_of part taken (last_path file start) → answer_of part (passed + 1) (last_path file (position - c.distance)) ≡ answer_of part taken (last_path file start)
 last_on part file start position passed taken t c p k inv =
     let go : ℕ → Reply = λ d. answer_of part (passed + 1) (last_path file (position - d)) in
@@ -283,15 +283,15 @@ below_end itself part file position passed = by itself (node_in file position)
 
 -- what is kept is what is found beside, or what was kept before
 kept_last : (part : Part) (file : List ℕ) (position passed : ℕ) (spare : Spare) (c : Option Child) (hit : Option Hit)
-    → or_then (child_or c (λ d. answer_of part (passed + 1) (last_path file (position - d))) (hit_or hit (Ok None))) (spare_answer part (last_path file) spare) ≡ spare_answer part (last_path file) (kept spare c hit position passed)
+    → or_then (child_or c (λ d. answer_of part (passed + 1) (last_path file (position - d))) (hit_or hit (Ok None))) (spare_answer part (last_path file) spare) ≡ spare_answer part (last_path file) (kept_spare spare c hit position passed)
 kept_last part file position passed spare None None = refl
 kept_last part file position passed spare None (Some hit) = refl
 kept_last part file position passed spare (Some c) hit = then_some part (passed + 1) (last_path file (position - c.distance)) (spare_answer part (last_path file) spare) (last_is_some file (position - c.distance))
 
 -- what is left of the search before and after a turn
-below_left : (itself : Bool) (part : Part) (file : List ℕ) (position passed b : ℕ) (rest key : List ℕ) (spare : Spare) (t : Turn) → rest ≡ b ∷ key → AnswersSearch (Ok t) (turn_in part (Floor b) passed position (node_in file position))
+below_left : (itself : Bool) (part : Part) (file : List ℕ) (position passed b : ℕ) (rest key : List ℕ) (spare : Spare) (t : Turn) → rest ≡ b ∷ key → SearchAnswers (Ok t) (turn_in part (Floor b) passed position (node_in file position))
     → or_then (answer_of part passed (below_from itself file position rest)) (spare_answer part (last_path file) spare)
-    ≡ or_then (child_or t.child (λ d. answer_of part (passed + 1) (below_from itself file (position - d) key)) (Ok None)) (spare_answer part (last_path file) (kept spare t.beside t.hit position passed))
+    ≡ or_then (child_or t.child (λ d. answer_of part (passed + 1) (below_from itself file (position - d) key)) (Ok None)) (spare_answer part (last_path file) (kept_spare spare t.beside t.hit position passed))
 below_left itself part file position passed b rest key spare t e p =
     let kept_before = spare_answer part (last_path file) spare in
     let on = child_or t.child (λ d. answer_of part (passed + 1) (below_from itself file (position - d) key)) (Ok None) in
@@ -301,39 +301,39 @@ below_left itself part file position passed b rest key spare t e p =
     ∙ then_assoc on beside kept_before
     ∙ ap (or_then on) (kept_last part file position passed spare t.beside t.hit)
 
-pub below_on : (itself : Bool) (part : Part) (file : List ℕ) (position passed b : ℕ) (rest key : List ℕ) (spare then_spare : Spare) (t : Turn) (c : Child) (whole : Reply) → rest ≡ b ∷ key → then_spare ≡ kept spare t.beside t.hit position passed → t.child ≡ Some c → AnswersSearch (Ok t) (turn_in part (Floor b) passed position (node_in file position))
+pub below_on : (itself : Bool) (part : Part) (file : List ℕ) (position passed b : ℕ) (rest key : List ℕ) (spare then_spare : Spare) (t : Turn) (c : Child) (whole : Reply) → rest ≡ b ∷ key → then_spare ≡ kept_spare spare t.beside t.hit position passed → t.child ≡ Some c → SearchAnswers (Ok t) (turn_in part (Floor b) passed position (node_in file position))
     → or_then (answer_of part passed (below_from itself file position rest)) (spare_answer part (last_path file) spare) ≡ whole
     → or_then (answer_of part (passed + 1) (below_from itself file (position - c.distance) key)) (spare_answer part (last_path file) then_spare) ≡ whole
 below_on itself part file position passed b rest key spare then_spare t c whole e n k p inv =
-    let after = spare_answer part (last_path file) (kept spare t.beside t.hit position passed) in
+    let after = spare_answer part (last_path file) (kept_spare spare t.beside t.hit position passed) in
     ap (λ s. or_then (answer_of part (passed + 1) (below_from itself file (position - c.distance) key)) (spare_answer part (last_path file) s)) n
     ∙ sym (sym inv ∙ below_left itself part file position passed b rest key spare t e p
     ∙ ap (λ c. or_then (child_or c (λ d. answer_of part (passed + 1) (below_from itself file (position - d) key)) (Ok None)) after) k)
 
-pub below_stops : (itself : Bool) (part : Part) (file : List ℕ) (position passed b : ℕ) (rest key : List ℕ) (spare then_spare : Spare) (t : Turn) (whole r : Reply) → rest ≡ b ∷ key → then_spare ≡ kept spare t.beside t.hit position passed → t.child ≡ None → AnswersSearch (Ok t) (turn_in part (Floor b) passed position (node_in file position))
+pub below_stops : (itself : Bool) (part : Part) (file : List ℕ) (position passed b : ℕ) (rest key : List ℕ) (spare then_spare : Spare) (t : Turn) (whole r : Reply) → rest ≡ b ∷ key → then_spare ≡ kept_spare spare t.beside t.hit position passed → t.child ≡ None → SearchAnswers (Ok t) (turn_in part (Floor b) passed position (node_in file position))
     → or_then (answer_of part passed (below_from itself file position rest)) (spare_answer part (last_path file) spare) ≡ whole
-    → AnswersSearch r (spare_answer part (last_path file) then_spare) → AnswersSearch r whole
+    → SearchAnswers r (spare_answer part (last_path file) then_spare) → SearchAnswers r whole
 below_stops itself part file position passed b rest key spare then_spare t whole r e n k p inv h =
-    let after = spare_answer part (last_path file) (kept spare t.beside t.hit position passed) in
+    let after = spare_answer part (last_path file) (kept_spare spare t.beside t.hit position passed) in
     same_reply r after whole
     (sym (sym inv ∙ below_left itself part file position passed b rest key spare t e p ∙ ap (λ c. or_then (child_or c (λ d. answer_of part (passed + 1) (below_from itself file (position - d) key)) (Ok None)) after) k))
-    (subst (λ s. AnswersSearch r (spare_answer part (last_path file) s)) n h)
+    (subst (λ s. SearchAnswers r (spare_answer part (last_path file) s)) n h)
 
-then_err : (e : DataError) (x next : Reply) → AnswersSearch {A = Option Hit} (Err e) x → AnswersSearch {A = Option Hit} (Err e) (or_then x next)
+then_err : (e : DataError) (x next : Reply) → SearchAnswers {A = Option Hit} (Err e) x → SearchAnswers {A = Option Hit} (Err e) (or_then x next)
 then_err StoreFault x next h = tt
 then_err NoMemory x next h = tt
 then_err (Damaged d) x next h = ap (λ r. or_then r next) h
 
-pub below_err : (itself : Bool) (part : Part) (file : List ℕ) (position passed b : ℕ) (rest key : List ℕ) (spare : Spare) (e : DataError) (whole : Reply) → rest ≡ b ∷ key → AnswersSearch {A = Turn} (Err e) (turn_in part (Floor b) passed position (node_in file position))
-    → or_then (answer_of part passed (below_from itself file position rest)) (spare_answer part (last_path file) spare) ≡ whole → AnswersSearch {A = Option Hit} (Err e) whole
+pub below_err : (itself : Bool) (part : Part) (file : List ℕ) (position passed b : ℕ) (rest key : List ℕ) (spare : Spare) (e : DataError) (whole : Reply) → rest ≡ b ∷ key → SearchAnswers {A = Turn} (Err e) (turn_in part (Floor b) passed position (node_in file position))
+    → or_then (answer_of part passed (below_from itself file position rest)) (spare_answer part (last_path file) spare) ≡ whole → SearchAnswers {A = Option Hit} (Err e) whole
 below_err itself part file position passed b rest key spare e whole is h inv =
     let kept_before = spare_answer part (last_path file) spare in
     same_reply (Err e) _ whole (ap (λ x. or_then x kept_before) (sym (below_is itself part file position passed b key)) ∙ ap (λ r. or_then (answer_of part passed (below_from itself file position r)) kept_before) (sym is) ∙ inv)
     (then_err e (with_turn (turn_in part (Floor b) passed position (node_in file position)) (below_turn itself part file position passed key)) kept_before
     (err_reply e (turn_in part (Floor b) passed position (node_in file position)) (below_turn itself part file position passed key) h))
 
-pub below_end_err : (itself : Bool) (part : Part) (file : List ℕ) (position passed : ℕ) (rest : List ℕ) (spare : Spare) (e : DataError) (whole : Reply) → rest ≡ [] → AnswersSearch {A = Turn} (Err e) (turn_in part End passed position (node_in file position))
-    → or_then (answer_of part passed (below_from itself file position rest)) (spare_answer part (last_path file) spare) ≡ whole → AnswersSearch {A = Option Hit} (Err e) whole
+pub below_end_err : (itself : Bool) (part : Part) (file : List ℕ) (position passed : ℕ) (rest : List ℕ) (spare : Spare) (e : DataError) (whole : Reply) → rest ≡ [] → SearchAnswers {A = Turn} (Err e) (turn_in part End passed position (node_in file position))
+    → or_then (answer_of part passed (below_from itself file position rest)) (spare_answer part (last_path file) spare) ≡ whole → SearchAnswers {A = Option Hit} (Err e) whole
 below_end_err itself part file position passed rest spare e whole is h inv =
     let kept_before = spare_answer part (last_path file) spare in
     let here : Turn → Reply = λ t. hit_or (if itself then t.hit else None) (Ok None) in
@@ -342,7 +342,7 @@ below_end_err itself part file position passed rest spare e whole is h inv =
 
 -- at the key's end: what is found there, or what was kept
 below_ends : (itself : Bool) (part : Part) (file : List ℕ) (position passed : ℕ) (rest : List ℕ) (spare : Spare) (t : Turn) (here : Option Hit) (whole : Reply) → rest ≡ [] → here ≡ (if itself then t.hit else None)
-    → AnswersSearch (Ok t) (turn_in part End passed position (node_in file position))
+    → SearchAnswers (Ok t) (turn_in part End passed position (node_in file position))
     → or_then (answer_of part passed (below_from itself file position rest)) (spare_answer part (last_path file) spare) ≡ whole → whole ≡ or_then (hit_or here (Ok None)) (spare_answer part (last_path file) spare)
 below_ends itself part file position passed rest spare t here whole is there p inv =
     let kept_before = spare_answer part (last_path file) spare in
@@ -355,13 +355,13 @@ then_hit None next h = cc
 then_hit (Some x) next h = refl
 
 pub below_here : (itself : Bool) (part : Part) (file : List ℕ) (position passed : ℕ) (rest : List ℕ) (spare : Spare) (t : Turn) (here : Option Hit) (whole : Reply) → rest ≡ [] → here ≡ (if itself then t.hit else None) → IsSome here
-    → AnswersSearch (Ok t) (turn_in part End passed position (node_in file position))
-    → or_then (answer_of part passed (below_from itself file position rest)) (spare_answer part (last_path file) spare) ≡ whole → AnswersSearch (Ok here) whole
+    → SearchAnswers (Ok t) (turn_in part End passed position (node_in file position))
+    → or_then (answer_of part passed (below_from itself file position rest)) (spare_answer part (last_path file) spare) ≡ whole → SearchAnswers (Ok here) whole
 below_here itself part file position passed rest spare t here whole is there some p inv = below_ends itself part file position passed rest spare t here whole is there p inv ∙ then_hit here (spare_answer part (last_path file) spare) some
 
 pub below_back : (itself : Bool) (part : Part) (file : List ℕ) (position passed : ℕ) (rest : List ℕ) (spare : Spare) (t : Turn) (here : Option Hit) (whole r : Reply) → rest ≡ [] → here ≡ (if itself then t.hit else None) → here ≡ None
-    → AnswersSearch (Ok t) (turn_in part End passed position (node_in file position))
-    → or_then (answer_of part passed (below_from itself file position rest)) (spare_answer part (last_path file) spare) ≡ whole → AnswersSearch r (spare_answer part (last_path file) spare) → AnswersSearch r whole
+    → SearchAnswers (Ok t) (turn_in part End passed position (node_in file position))
+    → or_then (answer_of part passed (below_from itself file position rest)) (spare_answer part (last_path file) spare) ≡ whole → SearchAnswers r (spare_answer part (last_path file) spare) → SearchAnswers r whole
 below_back itself part file position passed rest spare t here whole r is there none p inv h =
     same_reply r (spare_answer part (last_path file) spare) whole
     (sym (below_ends itself part file position passed rest spare t here whole is there p inv ∙ ap (λ x. or_then (hit_or x (Ok None)) (spare_answer part (last_path file) spare)) none)) h
@@ -386,13 +386,13 @@ above_is part file position passed b key = by (λ at. above_from true file at ke
         ∙ ap (or_then (child_or (child_under b n.places) (λ d. answer_of part (passed + 1) (go (position - d))) (Ok None))) (child_reply part passed position (child_above b n.places) first (Ok None))
 
 kept_first : (part : Part) (file : List ℕ) (position passed : ℕ) (spare : Spare) (c : Option Child)
-    → or_then (child_or c (λ d. answer_of part (passed + 1) (first_path file (position - d))) (Ok None)) (spare_answer part (first_path file) spare) ≡ spare_answer part (first_path file) (kept spare c None position passed)
+    → or_then (child_or c (λ d. answer_of part (passed + 1) (first_path file (position - d))) (Ok None)) (spare_answer part (first_path file) spare) ≡ spare_answer part (first_path file) (kept_spare spare c None position passed)
 kept_first part file position passed spare None = refl
 kept_first part file position passed spare (Some c) = then_some part (passed + 1) (first_path file (position - c.distance)) (spare_answer part (first_path file) spare) (first_is_some file (position - c.distance))
 
-above_left : (part : Part) (file : List ℕ) (position passed b : ℕ) (rest key : List ℕ) (spare : Spare) (t : Turn) → rest ≡ b ∷ key → AnswersSearch (Ok t) (turn_in part (Ceiling b) passed position (node_in file position))
+above_left : (part : Part) (file : List ℕ) (position passed b : ℕ) (rest key : List ℕ) (spare : Spare) (t : Turn) → rest ≡ b ∷ key → SearchAnswers (Ok t) (turn_in part (Ceiling b) passed position (node_in file position))
     → or_then (answer_of part passed (above_from true file position rest)) (spare_answer part (first_path file) spare)
-    ≡ or_then (child_or t.child (λ d. answer_of part (passed + 1) (above_from true file (position - d) key)) (Ok None)) (spare_answer part (first_path file) (kept spare t.beside None position passed))
+    ≡ or_then (child_or t.child (λ d. answer_of part (passed + 1) (above_from true file (position - d) key)) (Ok None)) (spare_answer part (first_path file) (kept_spare spare t.beside None position passed))
 above_left part file position passed b rest key spare t e p =
     let kept_before = spare_answer part (first_path file) spare in
     let on = child_or t.child (λ d. answer_of part (passed + 1) (above_from true file (position - d) key)) (Ok None) in
@@ -402,28 +402,28 @@ above_left part file position passed b rest key spare t e p =
     ∙ then_assoc on beside kept_before
     ∙ ap (or_then on) (kept_first part file position passed spare t.beside)
 
-pub above_on : (part : Part) (file : List ℕ) (position passed b : ℕ) (rest key : List ℕ) (spare then_spare : Spare) (t : Turn) (c : Child) (whole : Reply) → rest ≡ b ∷ key → then_spare ≡ kept spare t.beside None position passed → t.child ≡ Some c
-    → AnswersSearch (Ok t) (turn_in part (Ceiling b) passed position (node_in file position))
+pub above_on : (part : Part) (file : List ℕ) (position passed b : ℕ) (rest key : List ℕ) (spare then_spare : Spare) (t : Turn) (c : Child) (whole : Reply) → rest ≡ b ∷ key → then_spare ≡ kept_spare spare t.beside None position passed → t.child ≡ Some c
+    → SearchAnswers (Ok t) (turn_in part (Ceiling b) passed position (node_in file position))
     → or_then (answer_of part passed (above_from true file position rest)) (spare_answer part (first_path file) spare) ≡ whole
     → or_then (answer_of part (passed + 1) (above_from true file (position - c.distance) key)) (spare_answer part (first_path file) then_spare) ≡ whole
 above_on part file position passed b rest key spare then_spare t c whole e n k p inv =
-    let after = spare_answer part (first_path file) (kept spare t.beside None position passed) in
+    let after = spare_answer part (first_path file) (kept_spare spare t.beside None position passed) in
     ap (λ s. or_then (answer_of part (passed + 1) (above_from true file (position - c.distance) key)) (spare_answer part (first_path file) s)) n
     ∙ sym (sym inv ∙ above_left part file position passed b rest key spare t e p
     ∙ ap (λ c. or_then (child_or c (λ d. answer_of part (passed + 1) (above_from true file (position - d) key)) (Ok None)) after) k)
 
-pub above_stops : (part : Part) (file : List ℕ) (position passed b : ℕ) (rest key : List ℕ) (spare then_spare : Spare) (t : Turn) (whole r : Reply) → rest ≡ b ∷ key → then_spare ≡ kept spare t.beside None position passed → t.child ≡ None
-    → AnswersSearch (Ok t) (turn_in part (Ceiling b) passed position (node_in file position))
+pub above_stops : (part : Part) (file : List ℕ) (position passed b : ℕ) (rest key : List ℕ) (spare then_spare : Spare) (t : Turn) (whole r : Reply) → rest ≡ b ∷ key → then_spare ≡ kept_spare spare t.beside None position passed → t.child ≡ None
+    → SearchAnswers (Ok t) (turn_in part (Ceiling b) passed position (node_in file position))
     → or_then (answer_of part passed (above_from true file position rest)) (spare_answer part (first_path file) spare) ≡ whole
-    → AnswersSearch r (spare_answer part (first_path file) then_spare) → AnswersSearch r whole
+    → SearchAnswers r (spare_answer part (first_path file) then_spare) → SearchAnswers r whole
 above_stops part file position passed b rest key spare then_spare t whole r e n k p inv h =
-    let after = spare_answer part (first_path file) (kept spare t.beside None position passed) in
+    let after = spare_answer part (first_path file) (kept_spare spare t.beside None position passed) in
     same_reply r after whole
     (sym (sym inv ∙ above_left part file position passed b rest key spare t e p ∙ ap (λ c. or_then (child_or c (λ d. answer_of part (passed + 1) (above_from true file (position - d) key)) (Ok None)) after) k))
-    (subst (λ s. AnswersSearch r (spare_answer part (first_path file) s)) n h)
+    (subst (λ s. SearchAnswers r (spare_answer part (first_path file) s)) n h)
 
-pub above_err : (part : Part) (file : List ℕ) (position passed b : ℕ) (rest key : List ℕ) (spare : Spare) (e : DataError) (whole : Reply) → rest ≡ b ∷ key → AnswersSearch {A = Turn} (Err e) (turn_in part (Ceiling b) passed position (node_in file position))
-    → or_then (answer_of part passed (above_from true file position rest)) (spare_answer part (first_path file) spare) ≡ whole → AnswersSearch {A = Option Hit} (Err e) whole
+pub above_err : (part : Part) (file : List ℕ) (position passed b : ℕ) (rest key : List ℕ) (spare : Spare) (e : DataError) (whole : Reply) → rest ≡ b ∷ key → SearchAnswers {A = Turn} (Err e) (turn_in part (Ceiling b) passed position (node_in file position))
+    → or_then (answer_of part passed (above_from true file position rest)) (spare_answer part (first_path file) spare) ≡ whole → SearchAnswers {A = Option Hit} (Err e) whole
 above_err part file position passed b rest key spare e whole is h inv =
     let kept_before = spare_answer part (first_path file) spare in
     same_reply (Err e) _ whole (ap (λ x. or_then x kept_before) (sym (above_is part file position passed b key)) ∙ ap (λ r. or_then (answer_of part passed (above_from true file position r)) kept_before) (sym is) ∙ inv)
@@ -432,7 +432,7 @@ above_err part file position passed b rest key spare e whole is h inv =
 
 -- at the key's end the first path is the answer
 pub above_end : (part : Part) (file : List ℕ) (position passed : ℕ) (rest : List ℕ) (spare : Spare) (whole r : Reply) → rest ≡ []
-    → or_then (answer_of part passed (above_from true file position rest)) (spare_answer part (first_path file) spare) ≡ whole → AnswersSearch r (answer_of part passed (first_path file position)) → AnswersSearch r whole
+    → or_then (answer_of part passed (above_from true file position rest)) (spare_answer part (first_path file) spare) ≡ whole → SearchAnswers r (answer_of part passed (first_path file position)) → SearchAnswers r whole
 above_end part file position passed rest spare whole r is inv h =
     let kept_before = spare_answer part (first_path file) spare in
     same_reply r (answer_of part passed (first_path file position)) whole
@@ -452,7 +452,7 @@ front_rest (x ∷ xs) h = ap (λ ys. x ∷ ys) (sym (whole xs (length (x ∷ xs)
 pub taken_on : (passed n : ℕ) (rest : List ℕ) → passed + length rest ≡ n → 1 ≤ length rest → (passed + 1) + length (take (length rest - 1) (drop 1 rest)) ≡ n
 taken_on passed n rest h l = let e : length rest ≡ 1 + length (take (length rest - 1) (drop 1 rest)) = ap length (front_rest rest l) ∙ omega arith in omega arith
 
-pub fits_on : (root : ℕ) (spare : Spare) (c : Option Child) (hit : Option Hit) (position passed : ℕ) → SpareFits root spare → IsBack position c → passed + position ≤ root → SpareFits root (kept spare c hit position passed)
+pub fits_on : (root : ℕ) (spare : Spare) (c : Option Child) (hit : Option Hit) (position passed : ℕ) → SpareFits root spare → IsBack position c → passed + position ≤ root → SpareFits root (kept_spare spare c hit position passed)
 fits_on root spare None None position passed h back l = h
 fits_on root spare None (Some hit) position passed h back l = tt
 fits_on root spare (Some c) hit position passed h back l = (omega arith, omega (arith, back.0, back.1))

@@ -9,7 +9,7 @@ use Rattle.bti_nodes.specs.Children.{child_below, child_above, least_child, grea
 use Rattle.bti_nodes.specs.Trie.{Path, longer, own, paths_by, paths}
 use Rattle.bti_nodes.proofs.Places.{child_back}
 use Rattle.bti_reader.specs.Searches.{Answer, deeper, or_next, asked, in_child, own_or, exact_from, first_by, last_by, first_path, last_path, below_from, above_from, exact_in, floor_in, before_in, ceiling_in, after_in}
-use Rattle.bti_reader.specs.Meaning.{or_path, find_last, is_below, is_above, path_begins, path_below, path_above, first_that, SearchesAreMeaning}
+use Rattle.bti_reader.specs.Meaning.{or_path, find_last, is_below, is_above, path_begins, path_below, path_above, first_path_of, SearchesAreMeaning}
 use Rattle.bti_reader.proofs.Turns.{first_back, last_back}
 use Rattle.bti_reader.proofs.Split.{Go, FirstIn, LastIn, WholeIn, split, first_in, last_in, all_start, Starts}
 use Rattle.bti_reader.proofs.Lists.{last_of, deeper_ok, next_ok, path_none, path_assoc, first_append, first_map, last_append, last_map, find_append, find_last_append, find_none, find_all, find_last_none, find_last_all, find_map, find_last_map, all_imply, cmp_less, cmp_more, cmp_same, cmp_end, begins_not, begins_same, begins_end}
@@ -22,7 +22,7 @@ Picks go search position pick = (d : ℕ) (ps : List Path) → 0 < d → d ≤ p
 abbrev PicksSome : (ℕ → Answer) → ℕ → Type 0
 PicksSome search position = (d : ℕ) → 0 < d → d ≤ position → search (position - d) ≢ Ok None
 
-own_first : (position : ℕ) (payload : List ℕ) (o : Option Path) → own_or position payload (Ok o) ≡ Ok (or_path (first_that (own position payload)) o)
+own_first : (position : ℕ) (payload : List ℕ) (o : Option Path) → own_or position payload (Ok o) ≡ Ok (or_path (first_path_of (own position payload)) o)
 own_first position [] o = refl
 own_first position (x ∷ xs) o = refl
 
@@ -35,17 +35,17 @@ take_first : (b : ℕ) (o rest other : Option Path) → o ≢ None → option_ma
 take_first b None rest other h = absurd (h refl)
 take_first b (Some p) rest other h = refl
 
-pub go_first : (go : Go) (search : ℕ → Answer) (position : ℕ) (c : Option Child) (ps : List Path) (o : Option Path) → IsBack position c → FirstIn go position c ps → Picks go search position first_that → PicksSome search position
-    → in_child c position search (Ok o) ≡ Ok (or_path (first_that ps) o)
-go_first go search position None ps o back i picks some = ap (λ l. Ok (or_path (first_that l) o)) (sym i)
+pub go_first : (go : Go) (search : ℕ → Answer) (position : ℕ) (c : Option Child) (ps : List Path) (o : Option Path) → IsBack position c → FirstIn go position c ps → Picks go search position first_path_of → PicksSome search position
+    → in_child c position search (Ok o) ≡ Ok (or_path (first_path_of ps) o)
+go_first go search position None ps o back i picks some = ap (λ l. Ok (or_path (first_path_of l) o)) (sym i)
 go_first go search position (Some c) ps o back i picks some =
     let e = picks c.distance i.mine back.0 back.1 i.gives in
-    let there : first_that i.mine ≢ None = λ h. some c.distance back.0 back.1 (e ∙ ap Ok h) in
-    ap (deeper c.byte) e ∙ deeper_ok c.byte (first_that i.mine)
-    ∙ ap Ok (take_first c.byte (first_that i.mine) (first_that i.others) o there)
-    ∙ ap (λ x. Ok (or_path (or_path x (first_that i.others)) o)) (sym (first_map c.byte i.mine))
+    let there : first_path_of i.mine ≢ None = λ h. some c.distance back.0 back.1 (e ∙ ap Ok h) in
+    ap (deeper c.byte) e ∙ deeper_ok c.byte (first_path_of i.mine)
+    ∙ ap Ok (take_first c.byte (first_path_of i.mine) (first_path_of i.others) o there)
+    ∙ ap (λ x. Ok (or_path (or_path x (first_path_of i.others)) o)) (sym (first_map c.byte i.mine))
     ∙ ap (λ x. Ok (or_path x o)) (sym (first_append (map (longer c.byte) i.mine) i.others))
-    ∙ ap (λ l. Ok (or_path (first_that l) o)) (sym i.joined)
+    ∙ ap (λ l. Ok (or_path (first_path_of l) o)) (sym i.joined)
 
 pub go_last : (go : Go) (search : ℕ → Answer) (position : ℕ) (c : Option Child) (ps : List Path) (o : Option Path) → IsBack position c → LastIn go position c ps → Picks go search position last_of → PicksSome search position
     → in_child c position search (Ok o) ≡ Ok (or_path (last_of ps) o)
@@ -70,20 +70,20 @@ go_at go search position b (Some c) ps pick deep back i picks none same =
     ∙ ap (λ a. Ok (pick (map (longer a) i.mine))) (sym i.letter)
     ∙ ap (λ l. Ok (pick l)) (sym i.joined)
 
-pub first_law : (f g : ℕ) (file : List ℕ) (position : ℕ) (ps : List Path) → position < f → position < g → paths_by f file position ≡ Ok ps → first_by g file position ≡ Ok (first_that ps)
+pub first_law : (f g : ℕ) (file : List ℕ) (position : ℕ) (ps : List Path) → position < f → position < g → paths_by f file position ≡ Ok ps → first_by g file position ≡ Ok (first_path_of ps)
 first_law zero g file position ps l m h = absurd (omega arith)
 first_law (suc f) zero file position ps l m h = absurd (omega arith)
 first_law (suc f) (suc g) file position ps l m h =
     let s = stood file position (paths_by f file) ps h in
     let n = s.node in
-    let picks : Picks (paths_by f file) (first_by g file) position first_that = λ d qs some within is. first_law f g file (position - d) qs (omega arith) (omega arith) is in
+    let picks : Picks (paths_by f file) (first_by g file) position first_path_of = λ d qs some within is. first_law f g file (position - d) qs (omega arith) (omega arith) is in
     let there : PicksSome (first_by g file) position = λ d some within. first_some g file (position - d) (omega arith) in
     ap (λ r. asked r (λ n. own_or position n.payload (in_child (least_child n.places) position (first_by g file) (Ok None)))) s.sound.is
     ∙ ap (own_or position n.payload) (go_first (paths_by f file) (first_by g file) position (least_child n.places) s.kids None (first_back position any n.places s.sound.back) (first_in (paths_by f file) position n.places s.kids s.gives) picks there)
-    ∙ own_first position n.payload (or_path (first_that s.kids) None)
-    ∙ ap (λ o. Ok (or_path (first_that (own position n.payload)) o)) (path_none (first_that s.kids))
+    ∙ own_first position n.payload (or_path (first_path_of s.kids) None)
+    ∙ ap (λ o. Ok (or_path (first_path_of (own position n.payload)) o)) (path_none (first_path_of s.kids))
     ∙ ap Ok (sym (first_append (own position n.payload) s.kids))
-    ∙ ap (λ l. Ok (first_that l)) (sym s.joined)
+    ∙ ap (λ l. Ok (first_path_of l)) (sym s.joined)
 
 pub last_law : (f g : ℕ) (file : List ℕ) (position : ℕ) (ps : List Path) → position < f → position < g → paths_by f file position ≡ Ok ps → last_by g file position ≡ Ok (last_of ps)
 last_law zero g file position ps l m h = absurd (omega arith)
@@ -99,7 +99,7 @@ last_law (suc f) (suc g) file position ps l m h =
     ∙ ap Ok (sym (last_append (own position n.payload) s.kids))
     ∙ ap (λ l. Ok (last_of l)) (sym s.joined)
 
-pub first_path_law : (f : ℕ) (file : List ℕ) (position : ℕ) (ps : List Path) → position < f → paths_by f file position ≡ Ok ps → first_path file position ≡ Ok (first_that ps)
+pub first_path_law : (f : ℕ) (file : List ℕ) (position : ℕ) (ps : List Path) → position < f → paths_by f file position ≡ Ok ps → first_path file position ≡ Ok (first_path_of ps)
 unfolding first_path
 first_path_law f file position ps l h = first_law f (suc position) file position ps l (omega arith) h
 
@@ -122,7 +122,7 @@ exact_law [] (suc f) file position ps l h =
     let s = stood file position (paths_by f file) ps h in
     let n = s.node in
     let t = path_begins [] in
-    let mine : find t (own position n.payload) ≡ first_that (own position n.payload) = find_all t (own position n.payload) (own_find t true position n.payload (λ q. refl)) in
+    let mine : find t (own position n.payload) ≡ first_path_of (own position n.payload) = find_all t (own position n.payload) (own_find t true position n.payload (λ q. refl)) in
     let kids : find t s.kids ≡ None = find_none t s.kids (all_tests t false (λ a. Unit {0}) s.kids begins_end (all_start (paths_by f file) position n.places s.kids s.gives)) in
     ap (λ r. asked r (λ n. own_or position n.payload (Ok None))) s.sound.is
     ∙ own_first position n.payload None
@@ -137,7 +137,7 @@ exact_law (b ∷ key) (suc f) file position ps l h =
     let t = path_begins (b ∷ key) in
     let go : ℕ → Answer = λ at. exact_from file at key in
     let picks : Picks (paths_by f file) go position (find (path_begins key)) = λ d qs some within is. exact_law key f file (position - d) qs (omega arith) is in
-    let mine : find t (own position n.payload) ≡ first_that (own position n.payload) = find_all t (own position n.payload) (own_find t true position n.payload (λ q. refl)) in
+    let mine : find t (own position n.payload) ≡ first_path_of (own position n.payload) = find_all t (own position n.payload) (own_find t true position n.payload (λ q. refl)) in
     let less : find t parts.less ≡ None = find_none t parts.less (all_tests t false (λ a. a < b) parts.less (λ p h. begins_not b key p (apart p h)) parts.lower) in
     let more : find t parts.more ≡ None = find_none t parts.more (all_tests t false (λ a. b < a) parts.more (λ p h. begins_not b key p (beyond p h)) parts.higher) in
     ap (λ r. asked r (λ n. own_or position n.payload (in_child (child_under b n.places) position go (Ok None)))) s.sound.is
@@ -217,12 +217,12 @@ above_law true [] (suc f) file position ps l h =
     let n = s.node in
     let t = path_above true [] in
     let mine = own position n.payload in
-    let own_is : find t mine ≡ first_that mine = find_all t mine (own_find t true position n.payload (λ q. refl)) in
-    let kids : find t s.kids ≡ first_that s.kids = find_all t s.kids (all_tests t true (λ a. Unit {0}) s.kids (λ p h. ap (is_above true) (cmp_end p h)) (all_start (paths_by f file) position n.places s.kids s.gives)) in
+    let own_is : find t mine ≡ first_path_of mine = find_all t mine (own_find t true position n.payload (λ q. refl)) in
+    let kids : find t s.kids ≡ first_path_of s.kids = find_all t s.kids (all_tests t true (λ a. Unit {0}) s.kids (λ p h. ap (is_above true) (cmp_end p h)) (all_start (paths_by f file) position n.places s.kids s.gives)) in
     first_path_law (suc f) file position ps l h
-    ∙ ap (λ l. Ok (first_that l)) s.joined
+    ∙ ap (λ l. Ok (first_path_of l)) s.joined
     ∙ ap Ok (first_append mine s.kids)
-    ∙ ap (λ o. Ok (or_path o (first_that s.kids))) (sym own_is)
+    ∙ ap (λ o. Ok (or_path o (first_path_of s.kids))) (sym own_is)
     ∙ ap (λ o. Ok (or_path (find t mine) o)) (sym kids)
     ∙ ap Ok (sym (find_append t mine s.kids))
     ∙ ap (λ l. Ok (find t l)) (sym s.joined)
@@ -231,12 +231,12 @@ above_law false [] (suc f) file position ps l h =
     let n = s.node in
     let t = path_above false [] in
     let mine = own position n.payload in
-    let firsts : Picks (paths_by f file) (first_path file) position first_that = λ d qs some within is. first_path_law f file (position - d) qs (omega arith) is in
+    let firsts : Picks (paths_by f file) (first_path file) position first_path_of = λ d qs some within is. first_path_law f file (position - d) qs (omega arith) is in
     let own_is : find t mine ≡ None = find_none t mine (own_find t false position n.payload (λ q. refl)) in
-    let kids : find t s.kids ≡ first_that s.kids = find_all t s.kids (all_tests t true (λ a. Unit {0}) s.kids (λ p h. ap (is_above false) (cmp_end p h)) (all_start (paths_by f file) position n.places s.kids s.gives)) in
+    let kids : find t s.kids ≡ first_path_of s.kids = find_all t s.kids (all_tests t true (λ a. Unit {0}) s.kids (λ p h. ap (is_above false) (cmp_end p h)) (all_start (paths_by f file) position n.places s.kids s.gives)) in
     ap (λ r. asked r (λ n. in_child (least_child n.places) position (first_path file) (Ok None))) s.sound.is
     ∙ go_first (paths_by f file) (first_path file) position (least_child n.places) s.kids None (first_back position any n.places s.sound.back) (first_in (paths_by f file) position n.places s.kids s.gives) firsts (λ d some within. first_is_some file (position - d))
-    ∙ ap Ok (path_none (first_that s.kids))
+    ∙ ap Ok (path_none (first_path_of s.kids))
     ∙ ap Ok (sym kids)
     ∙ ap (λ o. Ok (or_path o (find t s.kids))) (sym own_is)
     ∙ ap Ok (sym (find_append t mine s.kids))
@@ -249,17 +249,17 @@ above_law itself (b ∷ key) (suc f) file position ps l h =
     let go : ℕ → Answer = λ at. above_from itself file at key in
     let mine = own position n.payload in
     let picks : Picks (paths_by f file) go position (find (path_above itself key)) = λ d qs some within is. above_law itself key f file (position - d) qs (omega arith) is in
-    let firsts : Picks (paths_by f file) (first_path file) position first_that = λ d qs some within is. first_path_law f file (position - d) qs (omega arith) is in
+    let firsts : Picks (paths_by f file) (first_path file) position first_path_of = λ d qs some within is. first_path_law f file (position - d) qs (omega arith) is in
     let own_is : find t mine ≡ None = find_none t mine (own_find t false position n.payload (λ q. refl)) in
     let less : find t parts.less ≡ None = find_none t parts.less (all_tests t false (λ a. a < b) parts.less (λ p h. ap (is_above itself) (cmp_less b key p h)) parts.lower) in
-    let more : find t parts.more ≡ first_that parts.more = find_all t parts.more (all_tests t true (λ a. b < a) parts.more (λ p h. ap (is_above itself) (cmp_more b key p h)) parts.higher) in
+    let more : find t parts.more ≡ first_path_of parts.more = find_all t parts.more (all_tests t true (λ a. b < a) parts.more (λ p h. ap (is_above itself) (cmp_more b key p h)) parts.higher) in
     let under : in_child (child_under b n.places) position go (Ok None) ≡ Ok (find t parts.same) =
     go_at (paths_by f file) go position b (child_under b n.places) parts.same (find t) (find (path_above itself key)) (child_back b position n.places s.sound.back) parts.at picks refl (λ rs. find_map t (path_above itself key) b rs (λ p. ap (is_above itself) (cmp_same b key p))) in
-    let beside : in_child (child_above b n.places) position (first_path file) (Ok None) ≡ Ok (or_path (first_that parts.more) None) =
+    let beside : in_child (child_above b n.places) position (first_path file) (Ok None) ≡ Ok (or_path (first_path_of parts.more) None) =
     go_first (paths_by f file) (first_path file) position (child_above b n.places) parts.more None (first_back position _ n.places s.sound.back) parts.above firsts (λ d some within. first_is_some file (position - d)) in
     ap (λ r. asked r (λ n. or_next (in_child (child_under b n.places) position go (Ok None)) (in_child (child_above b n.places) position (first_path file) (Ok None)))) s.sound.is
     ∙ ap (λ x. or_next x (in_child (child_above b n.places) position (first_path file) (Ok None))) under
-    ∙ ap (or_next (Ok (find t parts.same))) (beside ∙ ap Ok (path_none (first_that parts.more)) ∙ ap Ok (sym more))
+    ∙ ap (or_next (Ok (find t parts.same))) (beside ∙ ap Ok (path_none (first_path_of parts.more)) ∙ ap Ok (sym more))
     ∙ next_ok (find t parts.same) (find t parts.more)
     ∙ ap Ok (sym (find_append t parts.same parts.more))
     ∙ ap (λ o. Ok (or_path o (find t (parts.same ++ parts.more)))) (sym less)

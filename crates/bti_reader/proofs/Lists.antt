@@ -10,7 +10,7 @@ use Rattle.std.specs.Ordering.{nat_cmp, ordering_then}
 use Rattle.std.specs.Cmp.Lexicographic.{slice_cmp}
 use Rattle.bti_nodes.specs.Trie.{Path, longer}
 use Rattle.bti_reader.specs.Searches.{deeper, or_next}
-use Rattle.bti_reader.specs.Meaning.{or_path, find_last, first_that}
+use Rattle.bti_reader.specs.Meaning.{or_path, find_last, first_path_of}
 use Rattle.bti_reader.proofs.Split.{Starts}
 
 abbrev pub last_of : List Path → Option Path
@@ -33,11 +33,11 @@ pub path_assoc : (a b c : Option Path) → or_path (or_path a b) c ≡ or_path a
 path_assoc None b c = refl
 path_assoc (Some p) b c = refl
 
-pub first_append : (xs ys : List Path) → first_that (xs ++ ys) ≡ or_path (first_that xs) (first_that ys)
+pub first_append : (xs ys : List Path) → first_path_of (xs ++ ys) ≡ or_path (first_path_of xs) (first_path_of ys)
 first_append [] ys = refl
 first_append (x ∷ xs) ys = refl
 
-pub first_map : (b : ℕ) (xs : List Path) → first_that (map (longer b) xs) ≡ option_map (longer b) (first_that xs)
+pub first_map : (b : ℕ) (xs : List Path) → first_path_of (map (longer b) xs) ≡ option_map (longer b) (first_path_of xs)
 first_map b [] = refl
 first_map b (x ∷ xs) = refl
 
@@ -69,7 +69,7 @@ pub find_none : (t : Path → Bool) (xs : List Path) → AllByRecursion (λ p. t
 find_none t [] h = refl
 find_none t (x ∷ xs) h = ap (λ v. cond v (Some x) (find t xs)) h.0 ∙ find_none t xs h.1
 
-pub find_all : (t : Path → Bool) (xs : List Path) → AllByRecursion (λ p. t p ≡ true) xs → find t xs ≡ first_that xs
+pub find_all : (t : Path → Bool) (xs : List Path) → AllByRecursion (λ p. t p ≡ true) xs → find t xs ≡ first_path_of xs
 find_all t [] h = refl
 find_all t (x ∷ xs) h = ap (λ v. cond v (Some x) (find t xs)) h.0
 

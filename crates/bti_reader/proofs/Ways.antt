@@ -19,8 +19,8 @@ use Rattle.bti_reader.specs.declared.ask.Turn.{Turn}
 use Rattle.bti_reader.specs.declared.way.PathHit.{PathHit}
 use Rattle.bti_reader.specs.declared.way.Start.{Start}
 use Rattle.bti_reader.specs.Searches.{Answer, asked, deeper, or_next, in_child, first_path, above_from, after_in}
-use Rattle.bti_reader.specs.Steps.{turn_in, turn_of, AnswersSearch, damage_of}
-use Rattle.bti_reader.specs.Walks.{deepers, path_answer, start_of, start_answer, WalkBegins}
+use Rattle.bti_reader.specs.Steps.{turn_in, turn_of, SearchAnswers, damage_of}
+use Rattle.bti_reader.specs.Walks.{deepers, path_answer, start_of, start_answer, StartIs}
 use Rattle.bti_reader.specs.Ways.{IsChild, IsWay}
 use Rattle.bti_reader.proofs.Sound.{sound, deeper_none, first_is_some}
 use Rattle.bti_reader.proofs.Walking.{end_of_turn, next_some, under_letter, deepers_err, deepers_more, take_more}
@@ -56,17 +56,17 @@ child_of_node p file at n c begins is = record {
   there = refl;
 }
 
-pub least_stands : (part : Part) (file : List ℕ) (passed at : ℕ) (t : Turn) (c : Child) → AnswersSearch (Ok t) (turn_in part Least passed at (node_in file at)) → t.child ≡ Some c → IsChild file at c.byte (at - c.distance)
+pub least_stands : (part : Part) (file : List ℕ) (passed at : ℕ) (t : Turn) (c : Child) → SearchAnswers (Ok t) (turn_in part Least passed at (node_in file at)) → t.child ≡ Some c → IsChild file at c.byte (at - c.distance)
 least_stands part file passed at t c p k = by (node_in file at) refl p
   where
-    by : (r : Result Node Wrong) → node_in file at ≡ r → AnswersSearch (Ok t) (turn_in part Least passed at r) → IsChild file at c.byte (at - c.distance)
+    by : (r : Result Node Wrong) → node_in file at ≡ r → SearchAnswers (Ok t) (turn_in part Least passed at r) → IsChild file at c.byte (at - c.distance)
     by (Err w) e p = cc
     by (Ok n) e p = let same : turn_of part Least passed at n ≡ t = cc in child_of_node any file at n c e (ap (λ (t : Turn). t.child) same ∙ k)
 
-pub beside_stands : (part : Part) (file : List ℕ) (passed at b : ℕ) (t : Turn) (c : Child) → AnswersSearch (Ok t) (turn_in part (Ceiling b) passed at (node_in file at)) → t.beside ≡ Some c → IsChild file at c.byte (at - c.distance)
+pub beside_stands : (part : Part) (file : List ℕ) (passed at b : ℕ) (t : Turn) (c : Child) → SearchAnswers (Ok t) (turn_in part (Ceiling b) passed at (node_in file at)) → t.beside ≡ Some c → IsChild file at c.byte (at - c.distance)
 beside_stands part file passed at b t c p k = by (node_in file at) refl p
   where
-    by : (r : Result Node Wrong) → node_in file at ≡ r → AnswersSearch (Ok t) (turn_in part (Ceiling b) passed at r) → IsChild file at c.byte (at - c.distance)
+    by : (r : Result Node Wrong) → node_in file at ≡ r → SearchAnswers (Ok t) (turn_in part (Ceiling b) passed at r) → IsChild file at c.byte (at - c.distance)
     by (Err w) e p = cc
     by (Ok n) e p = let same : turn_of part (Ceiling b) passed at n ≡ t = cc in child_of_node _ file at n c e (ap (λ (t : Turn). t.beside) same ∙ k)
 
@@ -122,7 +122,7 @@ level file at b to key c =
     ∙ ap (λ x. or_next (deeper b (above_from false file x key)) (in_child (child_above b c.node.places) at (first_path file) (Ok None))) (sym c.there)
 
 -- where nothing is found at the next node, the search goes on beside it
-pub level_none : (part : Part) (file : List ℕ) (passed at b to : ℕ) (key : List ℕ) (t : Turn) → IsChild file at b to → above_from false file to key ≡ Ok None → AnswersSearch (Ok t) (turn_in part (Ceiling b) passed at (node_in file at))
+pub level_none : (part : Part) (file : List ℕ) (passed at b to : ℕ) (key : List ℕ) (t : Turn) → IsChild file at b to → above_from false file to key ≡ Ok None → SearchAnswers (Ok t) (turn_in part (Ceiling b) passed at (node_in file at))
     → above_from false file at (b ∷ key) ≡ in_child t.beside at (first_path file) (Ok None)
 level_none part file passed at b to key t c none p =
     let is : turn_in part (Ceiling b) passed at (Ok c.node) ≡ Ok t = ap (turn_in part (Ceiling b) passed at) (sym c.begins) ∙ p in
@@ -205,14 +205,14 @@ start_found file path nodes j c way l h =
 last_left : (file path nodes : List ℕ) (a : Answer) → above_from false file (get_or nodes (length path) 0) [] ≡ a → above_from false file (get_or nodes (length path) 0) (drop (length path) path) ≡ a
 last_left file path nodes a h = ap (above_from false file (get_or nodes (length path) 0)) (drop_all (length path) path (omega arith)) ∙ h
 
-pub below_found : (part : Part) (file path nodes : List ℕ) (passed : ℕ) (t : Turn) (c : Child) → IsWay file path nodes → AnswersSearch (Ok t) (turn_in part Least passed (get_or nodes (length path) 0) (node_in file (get_or nodes (length path) 0))) → t.child ≡ Some c
+pub below_found : (part : Part) (file path nodes : List ℕ) (passed : ℕ) (t : Turn) (c : Child) → IsWay file path nodes → SearchAnswers (Ok t) (turn_in part Least passed (get_or nodes (length path) 0) (node_in file (get_or nodes (length path) 0))) → t.child ≡ Some c
     → start_answer file path (Some (start_of c (get_or nodes (length path) 0) (length path))) ≡ after_in file (get_or nodes 0 0) path
 below_found part file path nodes passed t c way p k =
     let last = get_or nodes (length path) 0 in
     start_found file path nodes (length path) c way (omega arith)
     (last_left file path nodes _ (end_of_turn part file passed last t p ∙ ap (λ o. in_child o last (first_path file) (Ok None)) k))
 
-pub none_below : (part : Part) (file path nodes : List ℕ) (passed : ℕ) (t : Turn) → AnswersSearch (Ok t) (turn_in part Least passed (get_or nodes (length path) 0) (node_in file (get_or nodes (length path) 0))) → t.child ≡ None
+pub none_below : (part : Part) (file path nodes : List ℕ) (passed : ℕ) (t : Turn) → SearchAnswers (Ok t) (turn_in part Least passed (get_or nodes (length path) 0) (node_in file (get_or nodes (length path) 0))) → t.child ≡ None
     → above_from false file (get_or nodes (length path) 0) (drop (length path) path) ≡ Ok None
 none_below part file path nodes passed t p k =
     let last = get_or nodes (length path) 0 in
@@ -220,7 +220,7 @@ none_below part file path nodes passed t p k =
 
 -- one step up, where nothing was found below
 step_up : (part : Part) (file path nodes : List ℕ) (j passed : ℕ) (t : Turn) → IsWay file path nodes → j < length path → above_from false file (get_or nodes (j + 1) 0) (drop (j + 1) path) ≡ Ok None
-    → AnswersSearch (Ok t) (turn_in part (Ceiling (get_or path j 0)) passed (get_or nodes j 0) (node_in file (get_or nodes j 0)))
+    → SearchAnswers (Ok t) (turn_in part (Ceiling (get_or path j 0)) passed (get_or nodes j 0) (node_in file (get_or nodes j 0)))
     → above_from false file (get_or nodes j 0) (drop j path) ≡ in_child t.beside (get_or nodes j 0) (first_path file) (Ok None)
 step_up part file path nodes j passed t way l none p =
     let next : j + 1 ≡ suc j = omega arith in
@@ -228,13 +228,13 @@ step_up part file path nodes j passed t way l none p =
     ∙ level_none part file passed (get_or nodes j 0) (get_or path j 0) (get_or nodes (j + 1) 0) (drop (j + 1) path) t (way j l) none p
 
 pub beside_found : (part : Part) (file path nodes : List ℕ) (j passed : ℕ) (t : Turn) (c : Child) → IsWay file path nodes → j < length path → above_from false file (get_or nodes (j + 1) 0) (drop (j + 1) path) ≡ Ok None
-    → AnswersSearch (Ok t) (turn_in part (Ceiling (get_or path j 0)) passed (get_or nodes j 0) (node_in file (get_or nodes j 0))) → t.beside ≡ Some c
+    → SearchAnswers (Ok t) (turn_in part (Ceiling (get_or path j 0)) passed (get_or nodes j 0) (node_in file (get_or nodes j 0))) → t.beside ≡ Some c
     → start_answer file path (Some (start_of c (get_or nodes j 0) j)) ≡ after_in file (get_or nodes 0 0) path
 beside_found part file path nodes j passed t c way l none p k =
     start_found file path nodes j c way (omega (arith, l)) (step_up part file path nodes j passed t way l none p ∙ ap (λ o. in_child o (get_or nodes j 0) (first_path file) (Ok None)) k)
 
 pub none_beside : (part : Part) (file path nodes : List ℕ) (j passed : ℕ) (t : Turn) → IsWay file path nodes → j < length path → above_from false file (get_or nodes (j + 1) 0) (drop (j + 1) path) ≡ Ok None
-    → AnswersSearch (Ok t) (turn_in part (Ceiling (get_or path j 0)) passed (get_or nodes j 0) (node_in file (get_or nodes j 0))) → t.beside ≡ None
+    → SearchAnswers (Ok t) (turn_in part (Ceiling (get_or path j 0)) passed (get_or nodes j 0) (node_in file (get_or nodes j 0))) → t.beside ≡ None
     → above_from false file (get_or nodes j 0) (drop j path) ≡ Ok None
 none_beside part file path nodes j passed t way l none p k =
     step_up part file path nodes j passed t way l none p ∙ ap (λ o. in_child o (get_or nodes j 0) (first_path file) (Ok None)) k
@@ -250,15 +250,15 @@ above_wrong file at w (b ∷ key) e =
     ap (λ r. asked r (λ n. or_next (in_child (child_under b n.places) at (λ to. above_from false file to key) (Ok None)) (in_child (child_above b n.places) at (first_path file) (Ok None)))) e
 
 pub way_wrong : (part : Part) (question : Question) (file path nodes : List ℕ) (j passed : ℕ) (e : DataError) → IsWay file path nodes → j ≤ length path
-    → AnswersSearch {A = Turn} (Err e) (turn_in part question passed (get_or nodes j 0) (node_in file (get_or nodes j 0)))
-    → WalkBegins part file path (Err e) (after_in file (get_or nodes 0 0) path)
+    → SearchAnswers {A = Turn} (Err e) (turn_in part question passed (get_or nodes j 0) (node_in file (get_or nodes j 0)))
+    → StartIs part file path (Err e) (after_in file (get_or nodes 0 0) path)
 unfolding after_in
 way_wrong part question file path nodes j passed StoreFault way l h = tt
 way_wrong part question file path nodes j passed NoMemory way l h = tt
 way_wrong part question file path nodes j passed (Damaged d) way l h = by (node_in file (get_or nodes j 0)) refl h
   where
-    by : (r : Result Node Wrong) → node_in file (get_or nodes j 0) ≡ r → AnswersSearch {A = Turn} (Err (Damaged d)) (turn_in part question passed (get_or nodes j 0) r)
-        → AnswersSearch {A = Option PathHit} (Err (Damaged d)) (path_answer part [] (above_from false file (get_or nodes 0 0) path))
+    by : (r : Result Node Wrong) → node_in file (get_or nodes j 0) ≡ r → SearchAnswers {A = Turn} (Err (Damaged d)) (turn_in part question passed (get_or nodes j 0) r)
+        → SearchAnswers {A = Option PathHit} (Err (Damaged d)) (path_answer part [] (above_from false file (get_or nodes 0 0) path))
     by (Ok n) e h = cc
     by (Err w) e h =
         let found : ◌≢◌ {A = Answer} (Err w) (Ok None) = λ q. cc in

@@ -65,16 +65,16 @@ PathsAscend [] = Unit {0}
 PathsAscend (p ∷ ps) = AllByRecursion (IsPathBefore p) ps × PathsAscend ps
 
 -- the first path, where there is one
-abbrev pub first_that : List Path → Option Path
-first_that [] = None
-first_that (p ∷ ps) = Some p
+abbrev pub first_path_of : List Path → Option Path
+first_path_of [] = None
+first_path_of (p ∷ ps) = Some p
 
 -- where the trie has a meaning, its paths ascend, and one after the other the search for the least path above the last
 -- one gives them all
 pub record IsOrder (file : List ℕ) (root : ℕ) (ps : List Path) : Type 0 where
   pub ascend : PathsAscend ps
-  pub begins : first_path file root ≡ Ok (first_that ps)
-  pub goes_on : (xs ys : List Path) (p : Path) → ps ≡ xs ++ p ∷ ys → after_in file root p.path ≡ Ok (first_that ys)
+  pub begins : first_path file root ≡ Ok (first_path_of ps)
+  pub goes_on : (xs ys : List Path) (p : Path) → ps ≡ xs ++ p ∷ ys → after_in file root p.path ≡ Ok (first_path_of ys)
 
 -- that is so for every trie that has a meaning
 abbrev pub PathsAreInOrder : Type 0

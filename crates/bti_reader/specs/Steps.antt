@@ -23,17 +23,17 @@ use Rattle.bti_reader.specs.declared.nearest.Spare.TheVariants.{Nothing, Own, Fr
 use Rattle.bti_reader.specs.Searches.{Answer}
 
 -- a payload's number: without a sign in the row index, and with a sign elsewhere
-abbrev pub path_number : Part → List ℕ → ℤ
-path_number Rows payload = pos (unsigned_number payload)
-path_number Partitions payload = signed_number payload
-path_number Data payload = signed_number payload
-path_number Schema payload = signed_number payload
+abbrev pub payload_number : Part → List ℕ → ℤ
+payload_number Rows payload = pos (unsigned_number payload)
+payload_number Partitions payload = signed_number payload
+payload_number Data payload = signed_number payload
+payload_number Schema payload = signed_number payload
 
 -- the node's own path behind that many bytes, where it has a payload
 abbrev pub hit_at : Part → ℕ → ℕ → List ℕ → Option Hit
 hit_at part passed position [] = None
 hit_at part passed position (x ∷ xs) =
-    Some (record { path_len = passed; node = position; number = path_number part (x ∷ xs) })
+    Some (record { path_len = passed; node = position; number = payload_number part (x ∷ xs) })
 
 -- what a search along a key asks a node
 abbrev pub question_at : List ℕ → Question
@@ -81,8 +81,8 @@ turn_here part question passed position bytes =
     turn_in part question passed position (or_wrong position (node_at bytes position))
 
 -- what the node at a position of a file answers
-abbrev pub turn_at_node : Part → Question → ℕ → ℕ → List ℕ → Result Turn DataError
-turn_at_node part question passed position file = turn_in part question passed position (node_in file position)
+abbrev pub turn_in_file : Part → Question → ℕ → ℕ → List ℕ → Result Turn DataError
+turn_in_file part question passed position file = turn_in part question passed position (node_in file position)
 
 -- where a node without payload is asked for its least or greatest child, there is one
 abbrev pub IsOpen : Question → Turn → Type 0
@@ -95,7 +95,8 @@ IsOpen (Ceiling b) turn = Unit {0}
 
 -- the hit of a path, behind that many bytes
 abbrev pub hit_of : Part → ℕ → Path → Hit
-hit_of part passed p = record { path_len = passed + length p.path; node = p.node; number = path_number part p.payload }
+hit_of part passed p =
+    record { path_len = passed + length p.path; node = p.node; number = payload_number part p.payload }
 
 -- an answer as a call gives it, behind that many bytes
 abbrev pub answer_of : Part → ℕ → Answer → Result (Option Hit) DataError
@@ -104,20 +105,21 @@ answer_of part passed (Ok None) = Ok None
 answer_of part passed (Ok (Some p)) = Ok (Some (hit_of part passed p))
 
 -- what is expected, unless the store failed or memory ran out
-abbrev pub AnswersSearch : {A : Type 0} → Result A DataError → Result A DataError → Type 0
-AnswersSearch (Err StoreFault) expected = Unit {0}
-AnswersSearch (Err NoMemory) expected = Unit {0}
-AnswersSearch (Err (Damaged d)) expected = expected ≡ Err (Damaged d)
-AnswersSearch (Ok x) expected = expected ≡ Ok x
+abbrev pub SearchAnswers : {A : Type 0} → Result A DataError → Result A DataError → Type 0
+SearchAnswers (Err StoreFault) expected = Unit {0}
+SearchAnswers (Err NoMemory) expected = Unit {0}
+SearchAnswers (Err (Damaged d)) expected = expected ≡ Err (Damaged d)
+SearchAnswers (Ok x) expected = expected ≡ Ok x
 
 -- the same of a file whose bytes the store tells; where it doesn't, nothing is said
 abbrev pub AnswersIn : {A : Type 0}
     → Option Files → FileId → (List ℕ → Result A DataError) → Result A DataError → Type 0
-AnswersIn files file expected result = IfSome files (λ m. AnswersSearch result (expected (bytes_of m file)))
+AnswersIn files file expected result = IfSome files (λ m. SearchAnswers result (expected (bytes_of m file)))
 
 -- what a search in the file's bytes finds, as a call gives it behind that many bytes
 abbrev pub FindsHit : Option Files → FileId → ℕ → (List ℕ → Answer) → Result (Option Hit) DataError → Type 0
-FindsHit files file passed search result = AnswersIn files file (λ bytes. answer_of file.part passed (search bytes)) result
+FindsHit files file passed search result =
+    AnswersIn files file (λ bytes. answer_of file.part passed (search bytes)) result
 
 -- why a page wasn't had, as the searches tell it
 abbrev pub data_error : ReadError → DataError
@@ -125,10 +127,10 @@ data_error read.StoreFault = StoreFault
 data_error read.NoMemory = NoMemory
 
 -- what a search may come back to: nothing, a node's own path, or a child behind that many bytes
-abbrev pub kept : Spare → Option Child → Option Hit → ℕ → ℕ → Spare
-kept spare None None position passed = spare
-kept spare None (Some hit) position passed = Own hit
-kept spare (Some c) hit position passed = From (position - c.distance) (passed + 1)
+abbrev pub kept_spare : Spare → Option Child → Option Hit → ℕ → ℕ → Spare
+kept_spare spare None None position passed = spare
+kept_spare spare None (Some hit) position passed = Own hit
+kept_spare spare (Some c) hit position passed = From (position - c.distance) (passed + 1)
 
 -- a child that was kept lies below the root, behind as many bytes at least
 abbrev pub SpareFits : ℕ → Spare → Type 0

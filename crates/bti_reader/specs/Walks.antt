@@ -10,7 +10,7 @@ use Rattle.bti_reader.specs.declared.way.PathHit.{PathHit}
 use Rattle.bti_reader.specs.declared.way.Start.{Start}
 use Rattle.bti_reader.specs.declared.way.Way.{Way}
 use Rattle.bti_reader.specs.Searches.{Answer, deeper, first_path, after_in}
-use Rattle.bti_reader.specs.Steps.{AnswersSearch, AnswersIn, damage_of, path_number}
+use Rattle.bti_reader.specs.Steps.{SearchAnswers, AnswersIn, damage_of, payload_number}
 use Rattle.bti_reader.specs.Ways.{Progress}
 
 -- the next path: the first at all, or the least above the last one
@@ -36,7 +36,7 @@ abbrev pub path_answer : Part → List ℕ → Answer → Result (Option PathHit
 path_answer part taken (Err w) = Err (damage_of part w)
 path_answer part taken (Ok None) = Ok None
 path_answer part taken (Ok (Some p)) =
-    Ok (Some (record { path = taken ++ p.path; node = p.node; number = path_number part p.payload }))
+    Ok (Some (record { path = taken ++ p.path; node = p.node; number = payload_number part p.payload }))
 
 -- what a search in the file's bytes finds, as a call gives it with its path behind those bytes
 abbrev pub FindsPath : Option Files → FileId → List ℕ → (List ℕ → Answer) → Result (Option PathHit) DataError → Type 0
@@ -63,14 +63,14 @@ start_answer file key None = Ok None
 start_answer file key (Some s) = deepers (take s.passed key ++ s.byte ∷ []) (first_path file s.start)
 
 -- the start that a search was to find, unless the store failed, memory ran out or a node doesn't begin
-abbrev pub WalkBegins : Part → List ℕ → List ℕ → Result (Option Start) DataError → Answer → Type 0
-WalkBegins part file key (Ok s) answer = start_answer file key s ≡ answer
-WalkBegins part file key (Err e) answer = AnswersSearch {A = Option PathHit} (Err e) (path_answer part [] answer)
+abbrev pub StartIs : Part → List ℕ → List ℕ → Result (Option Start) DataError → Answer → Type 0
+StartIs part file key (Ok s) answer = start_answer file key s ≡ answer
+StartIs part file key (Err e) answer = SearchAnswers {A = Option PathHit} (Err e) (path_answer part [] answer)
 
 -- the start at which what a search in the file's bytes finds begins
-abbrev pub BeginsIn : Option Files → FileId → List ℕ → (List ℕ → Answer) → Result (Option Start) DataError → Type 0
-BeginsIn files file key search result =
-    IfSome files (λ m. WalkBegins file.part (bytes_of m file) key result (search (bytes_of m file)))
+abbrev pub StartsIn : Option Files → FileId → List ℕ → (List ℕ → Answer) → Result (Option Start) DataError → Type 0
+StartsIn files file key search result =
+    IfSome files (λ m. StartIs file.part (bytes_of m file) key result (search (bytes_of m file)))
 
 -- the paths that a walk gives after the last one, until it gives none
 abbrev pub Given : List ℕ → ℕ → Option (List ℕ) → List Path → Type 0

@@ -43,12 +43,13 @@ abbrev pub IsWayIn : Option Files → FileId → List ℕ → List ℕ → Type 
 IsWayIn files file path nodes = IfSome files (λ m. IsWay (bytes_of m file) path nodes)
 
 -- the nodes are a way to the path that was found
-abbrev pub LeadsToNode : Option Files → FileId → List ℕ → Result (Option PathHit) DataError → Type 0
-LeadsToNode files file nodes result = IfOk result (λ hit. IfSome hit (λ h. IsWayIn files file h.path nodes))
+abbrev pub LeadsToHit : Option Files → FileId → List ℕ → Result (Option PathHit) DataError → Type 0
+LeadsToHit files file nodes result = IfOk result (λ hit. IfSome hit (λ h. IsWayIn files file h.path nodes))
 
 -- where the next paths begin is a child of one of the nodes, under the start's byte
-abbrev pub IsNodeBelow : List ℕ → List ℕ → Start → Type 0
-IsNodeBelow file nodes s = IsChild file (get_or nodes s.passed 0) s.byte s.start
+abbrev pub StartIsBelow : List ℕ → List ℕ → Start → Type 0
+StartIsBelow file nodes s = IsChild file (get_or nodes s.passed 0) s.byte s.start
 
-abbrev pub BeginsBelow : Option Files → FileId → List ℕ → Result (Option Start) DataError → Type 0
-BeginsBelow files file nodes result = IfSome files (λ m. IfOk result (λ s. IfSome s (IsNodeBelow (bytes_of m file) nodes)))
+abbrev pub StartsBelow : Option Files → FileId → List ℕ → Result (Option Start) DataError → Type 0
+StartsBelow files file nodes result =
+    IfSome files (λ m. IfOk result (λ s. IfSome s (StartIsBelow (bytes_of m file) nodes)))

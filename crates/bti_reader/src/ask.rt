@@ -4,7 +4,7 @@ ghost use Rattle.std.specs.Prelude.{◌≡◌, ◌<◌, ◌≤◌, ◌+◌, ◌^
 ghost use Rattle.outside.specs.Causes.{Rose};
 ghost use Rattle.page_cache.specs.Pages.{Honest};
 ghost use Rattle.bti_nodes.specs.Grammar.{IsBack};
-ghost use Rattle.bti_reader.specs.Steps.{damage_of, path_number, hit_at, first_way, second_way, turn_of, turn_here, turn_at_node, IsOpen, AnswersIn, data_error};
+ghost use Rattle.bti_reader.specs.Steps.{damage_of, payload_number, hit_at, first_way, second_way, turn_of, turn_here, turn_in_file, IsOpen, AnswersIn, data_error};
 
 use bti_nodes::{Cause, Child, Damage, NodeView, node_of, read_signed, read_unsigned};
 use data_file::DataError;
@@ -45,10 +45,10 @@ pub struct Turn {
 }
 
 /// The number of a payload.
-fn path_number(part: Part, payload: &[u8]) -> i64
+fn number_of(part: Part, payload: &[u8]) -> i64
     requires some { 0 < length payload.now }
     requires few { length payload.now < 8 }
-    ensures { result ≡ path_number part payload.now }
+    ensures { result ≡ payload_number part payload.now }
 {
     match part {
         Part::Rows => read_unsigned(payload) as i64,
@@ -66,7 +66,7 @@ fn hit_at(part: Part, passed: usize, position: u64, payload: &[u8]) -> Option<Hi
         _ => Some(Hit {
             path_len: passed,
             node: position,
-            number: path_number(part, payload),
+            number: number_of(part, payload),
         }),
     }
 }
@@ -162,7 +162,7 @@ pub fn ask<K: Store>(
     passed: usize,
 ) -> Result<Turn, DataError>
     requires { Honest (K.files store.old) cache.old }
-    ensures turn { AnswersIn (K.files store.old) file (turn_at_node file.part question passed position) result }
+    ensures turn { AnswersIn (K.files store.old) file (turn_in_file file.part question passed position) result }
     ensures back { IfOk result (λ t. IsBack position t.child × IsBack position t.beside) }
     ensures open { IfOk result (IsOpen question) }
     ensures hit { IfOk result (λ t. IfSome t.hit (λ h. h.path_len ≡ passed)) }

@@ -1,6 +1,6 @@
-//! Searches in the tries of index files, page by page through a cache. The readers of a table call them, and its checker
-//! walks through all paths. Each answers what the definition of the search says of the file's bytes; where a node that
-//! it asks for doesn't begin, it names the first such place.
+//! Searches in the tries of index files, page by page through a cache. The readers of a table call them, and its
+//! checker walks through all paths. Each answers what the definition of the search says of the file's bytes; where a
+//! node that it asks for doesn't begin, it names the first such place.
 #![tactic(auto)]
 
 mod ask;

@@ -5,7 +5,7 @@ ghost use Rattle.outside.specs.Causes.{Rose};
 ghost use Rattle.page_cache.specs.Pages.{Honest};
 ghost use Rattle.bti_nodes.specs.Grammar.{IsBack};
 ghost use Rattle.bti_reader.specs.Searches.{first_path, last_path, below_from, above_from, floor_in, before_in, ceiling_in};
-ghost use Rattle.bti_reader.specs.Steps.{FindsHit, FindsSpare, found_len, kept, SpareFits};
+ghost use Rattle.bti_reader.specs.Steps.{FindsHit, FindsSpare, found_len, kept_spare, SpareFits};
 
 use crate::ask::{Hit, Question, ask};
 use crate::paths::{first_path, last_path};
@@ -35,7 +35,7 @@ fn kept(
 ) -> Spare
     requires back { IsBack position beside }
     requires room { passed + position < 2 ^ 64 }
-    ensures { result ≡ kept spare beside hit position passed }
+    ensures { result ≡ kept_spare spare beside hit position passed }
 {
     match beside {
         Some(child) => Spare::From(position - child.distance, passed + 1),

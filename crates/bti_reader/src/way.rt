@@ -5,8 +5,8 @@ ghost use Rattle.outside.specs.Causes.{Rose};
 ghost use Rattle.page_cache.specs.Pages.{Honest};
 ghost use Rattle.bti_nodes.specs.Grammar.{IsBack};
 ghost use Rattle.bti_reader.specs.Searches.{first_path};
-ghost use Rattle.bti_reader.specs.Walks.{path_after, start_of, BeginsIn, FindsPath};
-ghost use Rattle.bti_reader.specs.Ways.{BeginsBelow, IsWayIn, LeadsToNode};
+ghost use Rattle.bti_reader.specs.Walks.{path_after, start_of, StartsIn, FindsPath};
+ghost use Rattle.bti_reader.specs.Ways.{StartsBelow, IsWayIn, LeadsToHit};
 
 use crate::ask::{Hit, Question, ask};
 use bti_nodes::Child;
@@ -65,7 +65,7 @@ pub fn first_into<K: Store>(
     requires way { IsWayIn (K.files store.old) file taken (nodes.old ++ start ∷ []) }
     ensures found { FindsPath (K.files store.old) file taken (λ bytes. first_path bytes start) result }
     ensures count { IfOk result (λ hit. IfSome hit (λ h. length nodes.new ≡ length h.path + 1)) }
-    ensures way { LeadsToNode (K.files store.old) file nodes.new result }
+    ensures way { LeadsToHit (K.files store.old) file nodes.new result }
     ensures root { IfOk result (λ hit. get_or nodes.new 0 0 ≡ get_or (nodes.old ++ start ∷ []) 0 0) }
     ensures honest { Honest (K.files store.new) cache.new }
     ensures files { K.files store.new ≡ K.files store.old }
@@ -113,9 +113,9 @@ fn next_start<K: Store>(
     requires honest { Honest (K.files store.old) cache.old }
     requires count { length nodes.now ≡ length path.now + 1 }
     requires way { IsWayIn (K.files store.old) file path.now nodes.now }
-    ensures found { BeginsIn (K.files store.old) file path.now (path_after path.now nodes.now) result }
+    ensures found { StartsIn (K.files store.old) file path.now (path_after path.now nodes.now) result }
     ensures fits { IfOk result (λ start. IfSome start (λ s. s.passed ≤ length path.now)) }
-    ensures child { BeginsBelow (K.files store.old) file nodes.now result }
+    ensures child { StartsBelow (K.files store.old) file nodes.now result }
     ensures honest { Honest (K.files store.new) cache.new }
     ensures files { K.files store.new ≡ K.files store.old }
     ensures later { K.faults store.old ≤ K.faults store.new }
@@ -163,7 +163,7 @@ pub fn after<K: Store>(
     requires way { IsWayIn (K.files store.old) file path.now nodes.now }
     ensures found { FindsPath (K.files store.old) file [] (path_after path.now nodes.now) result }
     ensures count { IfOk result (λ hit. IfSome hit (λ h. length reached.new ≡ length h.path + 1)) }
-    ensures way { LeadsToNode (K.files store.old) file reached.new result }
+    ensures way { LeadsToHit (K.files store.old) file reached.new result }
     ensures root { IfOk result (λ hit. IfSome hit (λ h. get_or reached.new 0 0 ≡ get_or nodes.now 0 0)) }
     ensures honest { Honest (K.files store.new) cache.new }
     ensures files { K.files store.new ≡ K.files store.old }

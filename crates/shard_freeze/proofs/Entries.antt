@@ -8,7 +8,7 @@ use Rattle.std.specs.declared.cmp.Ordering.TheVariants.{Less, Equal, Greater}
 use Rattle.std.specs.Ordering.{nat_cmp, eq_by_cmp, is_eq, is_lt, ordering_then}
 use Rattle.std.specs.FinMap.Entries.{find, below_all, is_sorted}
 use Rattle.key_types.specs.Table.{Entry, string_cmp, value_over}
-use Rattle.shard_freeze.specs.Listing.{behind}
+use Rattle.shard_freeze.specs.Listing.{prefixed}
 
 -- ---- the order of two strings by their first bytes
 
@@ -62,7 +62,7 @@ pub all_joined : (low : ℕ) (xs ys : List Entry) → AllFirst low xs → AllFir
 all_joined low [] ys h hs = hs
 all_joined low (x ∷ xs) ys (h, h') hs = (h, all_joined low xs ys h' hs)
 
-pub all_behind : (b : ℕ) (es : List Entry) → AllFirst b (behind (b ∷ []) es)
+pub all_behind : (b : ℕ) (es : List Entry) → AllFirst b (prefixed (b ∷ []) es)
 all_behind b [] = tt
 all_behind b (e ∷ es) = (omega arith, all_behind b es)
 
@@ -100,15 +100,15 @@ below_joined : (k : List ℕ) (xs ys : List Entry) → T (below_all string_cmp k
 below_joined k [] ys h hs = hs
 below_joined k (x ∷ xs) ys h hs = both _ _ (first _ _ h) (below_joined k xs ys (second _ _ h) hs)
 
-below_behind : (b : ℕ) (k : List ℕ) (es : List Entry) → T (below_all string_cmp k es) → T (below_all string_cmp (b ∷ k) (behind (b ∷ []) es))
+below_behind : (b : ℕ) (k : List ℕ) (es : List Entry) → T (below_all string_cmp k es) → T (below_all string_cmp (b ∷ k) (prefixed (b ∷ []) es))
 below_behind b k [] h = tt
 below_behind b k (e ∷ es) h = both _ _ (subst (λ (o : Ordering). T (is_lt o)) (sym (cmp_same b k e.0)) (first _ _ h)) (below_behind b k es (second _ _ h))
 
 -- the entries under one byte before those under greater ones
-pub sorted_next : (b : ℕ) (es ys : List Entry) → T (is_sorted string_cmp es) → AllFirst (b + 1) ys → T (is_sorted string_cmp ys) → T (is_sorted string_cmp (behind (b ∷ []) es ++ ys))
+pub sorted_next : (b : ℕ) (es ys : List Entry) → T (is_sorted string_cmp es) → AllFirst (b + 1) ys → T (is_sorted string_cmp ys) → T (is_sorted string_cmp (prefixed (b ∷ []) es ++ ys))
 sorted_next b [] ys h later hs = hs
 sorted_next b (e ∷ es) ys h later hs = both _ _
-    (below_joined (b ∷ e.0) (behind (b ∷ []) es) ys (below_behind b e.0 es (first _ _ h)) (below_later b e.0 ys later))
+    (below_joined (b ∷ e.0) (prefixed (b ∷ []) es) ys (below_behind b e.0 es (first _ _ h)) (below_later b e.0 ys later))
     (sorted_next b es ys (second _ _ h) later hs)
 
 pub sorted_own : (v : List ℕ) (ys : List Entry) → AllFirst 0 ys → T (is_sorted string_cmp ys) → T (is_sorted string_cmp (([], v) ∷ ys))
@@ -132,17 +132,17 @@ find_empty (e ∷ es) (h, hs) = ap (λ (b : Bool). cond b (Some e.1) (find strin
     by [] h = absurd h
     by (d ∷ s) h = refl
 
-pub find_past : (b c : ℕ) (k : List ℕ) (es ys : List Entry) → c ≢ b → find string_cmp (c ∷ k) (behind (b ∷ []) es ++ ys) ≡ find string_cmp (c ∷ k) ys
+pub find_past : (b c : ℕ) (k : List ℕ) (es ys : List Entry) → c ≢ b → find string_cmp (c ∷ k) (prefixed (b ∷ []) es ++ ys) ≡ find string_cmp (c ∷ k) ys
 find_past b c k [] ys ne = refl
-find_past b c k (e ∷ es) ys ne = ap (λ (t : Bool). cond t (Some e.1) (find string_cmp (c ∷ k) (behind (b ∷ []) es ++ ys))) (apart_by c b k e.0 ne) ∙ find_past b c k es ys ne
+find_past b c k (e ∷ es) ys ne = ap (λ (t : Bool). cond t (Some e.1) (find string_cmp (c ∷ k) (prefixed (b ∷ []) es ++ ys))) (apart_by c b k e.0 ne) ∙ find_past b c k es ys ne
 
 over_cond : (t : Bool) (x : List ℕ) (o older : Option (List ℕ)) → cond t (Some x) (value_over o older) ≡ value_over (cond t (Some x) o) older
 over_cond true x o older = refl
 over_cond false x o older = refl
 
-pub find_here : (c : ℕ) (k : List ℕ) (es ys : List Entry) → find string_cmp (c ∷ k) (behind (c ∷ []) es ++ ys) ≡ value_over (find string_cmp k es) (find string_cmp (c ∷ k) ys)
+pub find_here : (c : ℕ) (k : List ℕ) (es ys : List Entry) → find string_cmp (c ∷ k) (prefixed (c ∷ []) es ++ ys) ≡ value_over (find string_cmp k es) (find string_cmp (c ∷ k) ys)
 find_here c k [] ys = refl
 find_here c k (e ∷ es) ys =
-    ap (λ (o : Ordering). cond (is_eq o) (Some e.1) (find string_cmp (c ∷ k) (behind (c ∷ []) es ++ ys))) (cmp_same c k e.0)
+    ap (λ (o : Ordering). cond (is_eq o) (Some e.1) (find string_cmp (c ∷ k) (prefixed (c ∷ []) es ++ ys))) (cmp_same c k e.0)
     ∙ ap (cond (eq_by_cmp string_cmp k e.0) (Some e.1)) (find_here c k es ys)
     ∙ over_cond (eq_by_cmp string_cmp k e.0) e.1 (find string_cmp k es) (find string_cmp (c ∷ k) ys)

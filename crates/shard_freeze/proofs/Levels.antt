@@ -8,8 +8,8 @@ use Rattle.trie_image.specs.declared.Ledger.{Ledger}
 use Rattle.trie_image.specs.Image.{reading}
 use Rattle.trie_image.specs.Paths.{HasPath}
 use Rattle.shard_freeze.specs.declared.walk.Level.{Level}
-use Rattle.shard_freeze.specs.Listing.{behind, entries_below, entries_seen}
-use Rattle.shard_freeze.specs.Walk.{level_left, levels_left, IsLevel, AreWayLevels, weight, level_size, levels_size, kept_levels}
+use Rattle.shard_freeze.specs.Listing.{prefixed, children_entries, entries_seen}
+use Rattle.shard_freeze.specs.Walk.{level_left, levels_left, IsLevel, IsStack, steps_under, level_size, levels_size, kept_levels}
 use Rattle.shard_freeze.proofs.Left.{under_past}
 
 -- ---- keys with the same first bytes
@@ -32,39 +32,39 @@ module _ (g : Ledger) where
     kind = is.kind;
   }
 
-  pub low_high : (key : List ℕ) (low high : ℕ) (ls : List Level) → AreWayLevels g key low high ls → low ≤ high
+  pub low_high : (key : List ℕ) (low high : ℕ) (ls : List Level) → IsStack g key low high ls → low ≤ high
   low_high key low high [] h = h
   low_high key low high (l ∷ ls) (le, is, are) = omega (arith, le, low_high key l.depth high ls are)
 
-  pub rekey_levels : (key bs : List ℕ) (d low high : ℕ) (ls : List Level) → AreWayLevels g key low high ls → high ≤ d → d ≤ length key → AreWayLevels g (take d key ++ bs) low high ls
+  pub rekey_levels : (key bs : List ℕ) (d low high : ℕ) (ls : List Level) → IsStack g key low high ls → high ≤ d → d ≤ length key → IsStack g (take d key ++ bs) low high ls
   rekey_levels key bs d low high [] h most fits = h
   rekey_levels key bs d low high (l ∷ ls) (le, is, are) most fits =
       (le, rekey_level key bs d l is (omega (arith, low_high key l.depth high ls are, most)) fits, rekey_levels key bs d l.depth high ls are most fits)
 
-  pub raise_levels : (key : List ℕ) (low high more : ℕ) (ls : List Level) → AreWayLevels g key low high ls → high ≤ more → AreWayLevels g key low more ls
+  pub raise_levels : (key : List ℕ) (low high more : ℕ) (ls : List Level) → IsStack g key low high ls → high ≤ more → IsStack g key low more ls
   raise_levels key low high more [] h le = omega arith
   raise_levels key low high more (l ∷ ls) (least, is, are) le = (least, is, raise_levels key l.depth high more ls are le)
 
-  pub push_level : (key : List ℕ) (low more : ℕ) (top : Level) (ls : List Level) → AreWayLevels g key low top.depth ls → IsLevel g key top → top.depth ≤ more → AreWayLevels g key low more (ls ++ top ∷ [])
+  pub push_level : (key : List ℕ) (low more : ℕ) (top : Level) (ls : List Level) → IsStack g key low top.depth ls → IsLevel g key top → top.depth ≤ more → IsStack g key low more (ls ++ top ∷ [])
   push_level key low more top [] h is le = (h, is, le)
   push_level key low more top (l ∷ ls) (least, has, are) is le = (least, has, push_level key l.depth more top ls are is le)
 
-  pub pop_level : (key : List ℕ) (low high : ℕ) (top : Level) (ls : List Level) → AreWayLevels g key low high (ls ++ top ∷ []) → AreWayLevels g key low top.depth ls × IsLevel g key top
+  pub pop_level : (key : List ℕ) (low high : ℕ) (top : Level) (ls : List Level) → IsStack g key low high (ls ++ top ∷ []) → IsStack g key low top.depth ls × IsLevel g key top
   pop_level key low high top [] (least, is, le) = (least, is)
   pop_level key low high top (l ∷ ls) (least, has, are) = let i = pop_level key l.depth high top ls are in ((least, has, i.0), i.1)
 
-  pub kept_are : (key : List ℕ) (more : ℕ) (top : Level) (ls : List Level) → AreWayLevels g key 0 top.depth ls → IsLevel g key top → top.depth ≤ more → AreWayLevels g key 0 more (kept_levels ls top)
+  pub kept_are : (key : List ℕ) (more : ℕ) (top : Level) (ls : List Level) → IsStack g key 0 top.depth ls → IsLevel g key top → top.depth ≤ more → IsStack g key 0 more (kept_levels ls top)
   kept_are key more top ls are is le = by (nat_lt top.next 256) refl
     where
-      by : (b : Bool) → nat_lt top.next 256 ≡ b → AreWayLevels g key 0 more (cond b (ls ++ top ∷ []) ls)
+      by : (b : Bool) → nat_lt top.next 256 ≡ b → IsStack g key 0 more (cond b (ls ++ top ∷ []) ls)
       by true e = push_level key 0 more top ls are is le
       by false e = raise_levels key 0 top.depth more ls are le
 
 module _ (w : List ℕ) (value : ℕ → List ℕ) where
   pub level_same : (key bs : List ℕ) (d : ℕ) (l : Level) → l.depth ≤ d → d ≤ length key → level_left (reading w) value (take d key ++ bs) l ≡ level_left (reading w) value key l
-  level_same key bs d l low high = ap (λ (q : List ℕ). behind q (entries_below (reading w) value (entries_seen (reading w) value (2047 - l.depth)) l.node l.next (256 - l.next))) (same_front key bs l.depth d low high)
+  level_same key bs d l low high = ap (λ (q : List ℕ). prefixed q (children_entries (reading w) value (entries_seen (reading w) value (2047 - l.depth)) l.node l.next (256 - l.next))) (same_front key bs l.depth d low high)
 
-  pub levels_same : (g : Ledger) (key bs : List ℕ) (d low high : ℕ) (ls : List Level) → AreWayLevels g key low high ls → high ≤ d → d ≤ length key → levels_left (reading w) value (take d key ++ bs) ls ≡ levels_left (reading w) value key ls
+  pub levels_same : (g : Ledger) (key bs : List ℕ) (d low high : ℕ) (ls : List Level) → IsStack g key low high ls → high ≤ d → d ≤ length key → levels_left (reading w) value (take d key ++ bs) ls ≡ levels_left (reading w) value key ls
   levels_same g key bs d low high [] h most fits = refl
   levels_same g key bs d low high (l ∷ ls) (le, is, are) most fits =
       ap (λ (es : List Entry). es ++ level_left (reading w) value (take d key ++ bs) l) (levels_same g key bs d l.depth high ls are most fits)
@@ -75,7 +75,7 @@ module _ (w : List ℕ) (value : ℕ → List ℕ) where
   pushed_left key top (l ∷ ls) = ap (λ (es : List Entry). es ++ level_left (reading w) value key l) (pushed_left key top ls) ∙ append_assoc (level_left (reading w) value key top) (levels_left (reading w) value key ls) (level_left (reading w) value key l)
 
   pub passed_left : (key : List ℕ) (l : Level) → 256 ≤ l.next → level_left (reading w) value key l ≡ []
-  passed_left key l past = ap (behind (take l.depth key)) (under_past w value (entries_seen (reading w) value (2047 - l.depth)) l.node l.next past)
+  passed_left key l past = ap (prefixed (take l.depth key)) (under_past w value (entries_seen (reading w) value (2047 - l.depth)) l.node l.next past)
 
   pub kept_left : (key : List ℕ) (top : Level) (ls : List Level) → levels_left (reading w) value key (kept_levels ls top) ≡ level_left (reading w) value key top ++ levels_left (reading w) value key ls
   kept_left key top ls = by (nat_lt top.next 256) refl
@@ -86,8 +86,8 @@ module _ (w : List ℕ) (value : ℕ → List ℕ) where
 
 -- ---- sizes
 
-pub weight_more : (n : ℕ) → weight (suc n) ≡ 1 + 257 * (1 + weight n)
-unfolding weight
+pub weight_more : (n : ℕ) → steps_under (suc n) ≡ 1 + 257 * (1 + steps_under n)
+unfolding steps_under
 weight_more n = refl
 
 pub pushed_size : (top : Level) (ls : List Level) → levels_size (ls ++ top ∷ []) ≡ level_size top + levels_size ls
@@ -101,6 +101,6 @@ kept_size top ls = by (nat_lt top.next 256) refl
     by true e = omega (arith, pushed_size top ls)
     by false e = omega arith
 
--- a later byte, and all steps entries_below the child at an earlier one
+-- a later byte, and all steps under the child at an earlier one
 pub later_size : (next byte x : ℕ) → next ≤ byte → byte < 256 → (257 - (byte + 1)) * (1 + x) + x < (257 - next) * (1 + x)
 later_size next byte x l m = let more = mul-add-lt (257 - (byte + 1)) (1 + x) x (257 - next) (omega arith) (omega arith) in let turned = mul_comm (1 + x) (257 - next) in omega (arith, more, turned)

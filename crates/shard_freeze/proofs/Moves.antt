@@ -16,9 +16,9 @@ use Rattle.trie_image.specs.WellFormed.{IsWellFormed}
 use Rattle.trie_image.proofs.Exits.{path_nonzero}
 use Rattle.shard_freeze.specs.declared.edges.Edge.{Edge}
 use Rattle.shard_freeze.specs.declared.walk.Level.{Level}
-use Rattle.shard_freeze.specs.Listing.{behind, entries_below, entries_seen, listed_from}
+use Rattle.shard_freeze.specs.Listing.{prefixed, children_entries, entries_seen, entries_seen_from}
 use Rattle.shard_freeze.specs.Edges.{IsLeastChild, LeastChild}
-use Rattle.shard_freeze.specs.Walk.{here_left, level_left, levels_left, left_on_way, IsLevel, IsAt, weight, level_size, levels_size, kind_size, here_size, kept_levels}
+use Rattle.shard_freeze.specs.Walk.{here_left, level_left, levels_left, left_by_parts, IsLevel, IsAt, steps_under, level_size, levels_size, kind_size, here_size, kept_levels}
 use Rattle.shard_freeze.proofs.Lists.{path_fits, child_path}
 use Rattle.shard_freeze.proofs.Nodes.{prefix_content, prefix_is_content, prefix_node, prefix_is_node}
 use Rattle.shard_freeze.proofs.Left.{behind_joined, behind_twice, under_least, under_end, here_record, node_opened, prefix_opened}
@@ -35,7 +35,7 @@ no_prefix p (inl e) z = cc
 no_prefix p (inr (inl e)) z = cc
 no_prefix p (inr (inr e)) z = cc
 
-kind_most : (n : ℕ) (k : Option Kind) → kind_size n k ≤ weight n
+kind_most : (n : ℕ) (k : Option Kind) → kind_size n k ≤ steps_under n
 kind_most n (Some Content) = omega arith
 kind_most n (Some Nothing) = omega arith
 kind_most n (Some Chain) = omega arith
@@ -44,7 +44,7 @@ kind_most n (Some Wide) = omega arith
 kind_most n (Some Prefix) = omega arith
 kind_most n None = omega arith
 
-kind_whole : (p n : ℕ) (k : Option Kind) → kind_at p ≡ k → p ≢ 0 → k ≢ Some Content → kind_size n k ≡ weight n
+kind_whole : (p n : ℕ) (k : Option Kind) → kind_at p ≡ k → p ≢ 0 → k ≢ Some Content → kind_size n k ≡ steps_under n
 kind_whole p n (Some Content) e ne other = absurd (other refl)
 kind_whole p n (Some Nothing) e ne other = absurd (ne (is_kind p (Some Nothing) e))
 kind_whole p n (Some Chain) e ne other = refl
@@ -66,26 +66,26 @@ module _ (w : List ℕ) (g : Ledger) (cells : ℕ) (ok : IsWellFormed w g cells)
     here_is = next;
   }
 
-  opened_left : (value : ℕ → List ℕ) (node : ℕ) → level_left (reading w) value key (level_at node 0 (length key)) ≡ behind key (entries_below (reading w) value (entries_seen (reading w) value (2047 - length key)) node 0 256)
-  opened_left value node = ap (λ (q : List ℕ). behind q (entries_below (reading w) value (entries_seen (reading w) value (2047 - length key)) node 0 256)) (whole_key key)
+  opened_left : (value : ℕ → List ℕ) (node : ℕ) → level_left (reading w) value key (level_at node 0 (length key)) ≡ prefixed key (children_entries (reading w) value (entries_seen (reading w) value (2047 - length key)) node 0 256)
+  opened_left value node = ap (λ (q : List ℕ). prefixed q (children_entries (reading w) value (entries_seen (reading w) value (2047 - length key)) node 0 256)) (whole_key key)
 
-  opened_size : (node : ℕ) → HasPath g node key → level_size (level_at node 0 (length key)) + 1 ≡ weight (2049 - length key)
-  opened_size node path = let fits = path_fits w g cells ok node key path in let e : 2049 - length key ≡ suc (2048 - length key) = omega (arith, fits) in omega (arith, ap weight e, weight_more (2048 - length key))
+  opened_size : (node : ℕ) → HasPath g node key → level_size (level_at node 0 (length key)) + 1 ≡ steps_under (2049 - length key)
+  opened_size node path = let fits = path_fits w g cells ok node key path in let e : 2049 - length key ≡ suc (2048 - length key) = omega (arith, fits) in omega (arith, ap steps_under e, weight_more (2048 - length key))
 
   module _ (ne : here ≢ 0) where
     path : HasPath g here key
     path = at.here_is ne
 
-    pub visits_left : kind_at here ≢ Some Content → kind_at here ≢ Some Prefix → (value : ℕ → List ℕ) → left_on_way (reading w) value key (kept_levels below top) (level_at here 0 (length key)) 0 ≡ left_on_way (reading w) value key below top here
+    pub visits_left : kind_at here ≢ Some Content → kind_at here ≢ Some Prefix → (value : ℕ → List ℕ) → left_by_parts (reading w) value key (kept_levels below top) (level_at here 0 (length key)) 0 ≡ left_by_parts (reading w) value key below top here
     visits_left other third value =
         let rest : List Entry = level_left (reading w) value key top ++ levels_left (reading w) value key below in
         ap (λ (es : List Entry). level_left (reading w) value key (level_at here 0 (length key)) ++ es) (kept_left w value key top below)
-        ∙ ap (λ (es : List Entry). es ++ rest) (opened_left value here ∙ ap (behind key) (sym (node_opened w value g cells ok here key path other third)) ∙ sym (rw (ne_eqb here 0 ne) refl))
+        ∙ ap (λ (es : List Entry). es ++ rest) (opened_left value here ∙ ap (prefixed key) (sym (node_opened w value g cells ok here key path other third)) ∙ sym (rw (ne_eqb here 0 ne) refl))
 
     pub visits_at : kind_at here ≢ Some Prefix → IsAt g key (kept_levels below top) (level_at here 0 (length key)) 0
     visits_at third = opened_at here 0 path third (λ z. absurd (z refl))
 
-    here_weighs : kind_at here ≢ Some Content → here_size key here ≡ weight (2049 - length key)
+    here_weighs : kind_at here ≢ Some Content → here_size key here ≡ steps_under (2049 - length key)
     here_weighs other = kind_whole here (2049 - length key) (kind_at here) refl ne other
 
     pub visits_size : kind_at here ≢ Some Content → here_size key 0 + (level_size (level_at here 0 (length key)) + levels_size (kept_levels below top)) < here_size key here + (level_size top + levels_size below)
@@ -96,31 +96,31 @@ module _ (w : List ℕ) (g : Ledger) (cells : ℕ) (ok : IsWellFormed w g cells)
     pub prefix_at : kind_at here ≡ Some Prefix → IsAt g key (kept_levels below top) (level_at (field w (here / 32) 1) 0 (length key)) (field w (here / 32) 0)
     prefix_at k = opened_at (field w (here / 32) 1) (field w (here / 32) 0) (prefix_node w g cells ok here key path k) (no_prefix (field w (here / 32) 1) (prefix_is_node w g cells ok here key path k)) (λ _. prefix_content w g cells ok here key path k)
 
-    pub prefix_left : kind_at here ≡ Some Prefix → (value : ℕ → List ℕ) → left_on_way (reading w) value key (kept_levels below top) (level_at (field w (here / 32) 1) 0 (length key)) (field w (here / 32) 0) ≡ left_on_way (reading w) value key below top here
+    pub prefix_left : kind_at here ≡ Some Prefix → (value : ℕ → List ℕ) → left_by_parts (reading w) value key (kept_levels below top) (level_at (field w (here / 32) 1) 0 (length key)) (field w (here / 32) 0) ≡ left_by_parts (reading w) value key below top here
     prefix_left k value =
         let content : ℕ = field w (here / 32) 0 in let node : ℕ = field w (here / 32) 1 in
         let rest : List Entry = level_left (reading w) value key top ++ levels_left (reading w) value key below in
         let some : content ≢ 0 = path_nonzero g content key (prefix_content w g cells ok here key path k) in
-        let first : here_left (reading w) value key content ≡ behind key (([], value (record_cell content)) ∷ []) = ap (behind key) (here_record w value (2048 - length key) content some (prefix_is_content w g cells ok here key path k)) in
-        let here_is : listed_from (reading w) value (2048 - length key) here ≡ ([], value (record_cell content)) ∷ entries_below (reading w) value (entries_seen (reading w) value (2047 - length key)) node 0 256 =
+        let first : here_left (reading w) value key content ≡ prefixed key (([], value (record_cell content)) ∷ []) = ap (prefixed key) (here_record w value (2048 - length key) content some (prefix_is_content w g cells ok here key path k)) in
+        let here_is : entries_seen_from (reading w) value (2048 - length key) here ≡ ([], value (record_cell content)) ∷ children_entries (reading w) value (entries_seen (reading w) value (2047 - length key)) node 0 256 =
         rw (ne_eqb here 0 ne) (prefix_opened w value g cells ok here key path k) in
-        let both : here_left (reading w) value key here ≡ behind key (([], value (record_cell content)) ∷ []) ++ level_left (reading w) value key (level_at node 0 (length key)) =
-        ap (behind key) here_is ∙ ap (λ (es : List Entry). behind key (([], value (record_cell content)) ∷ []) ++ es) (sym (opened_left value node)) in
+        let both : here_left (reading w) value key here ≡ prefixed key (([], value (record_cell content)) ∷ []) ++ level_left (reading w) value key (level_at node 0 (length key)) =
+        ap (prefixed key) here_is ∙ ap (λ (es : List Entry). prefixed key (([], value (record_cell content)) ∷ []) ++ es) (sym (opened_left value node)) in
         ap (λ (es : List Entry). es ++ (level_left (reading w) value key (level_at node 0 (length key)) ++ levels_left (reading w) value key (kept_levels below top))) first
-        ∙ ap (λ (es : List Entry). behind key (([], value (record_cell content)) ∷ []) ++ (level_left (reading w) value key (level_at node 0 (length key)) ++ es)) (kept_left w value key top below)
-        ∙ sym (append_assoc (behind key (([], value (record_cell content)) ∷ [])) (level_left (reading w) value key (level_at node 0 (length key))) rest)
+        ∙ ap (λ (es : List Entry). prefixed key (([], value (record_cell content)) ∷ []) ++ (level_left (reading w) value key (level_at node 0 (length key)) ++ es)) (kept_left w value key top below)
+        ∙ sym (append_assoc (prefixed key (([], value (record_cell content)) ∷ [])) (level_left (reading w) value key (level_at node 0 (length key))) rest)
         ∙ ap (λ (es : List Entry). es ++ rest) (sym both)
 
     pub prefix_size : kind_at here ≡ Some Prefix → here_size key (field w (here / 32) 0) + (level_size (level_at (field w (here / 32) 1) 0 (length key)) + levels_size (kept_levels below top)) < here_size key here + (level_size top + levels_size below)
     prefix_size k = let none : here_size key (field w (here / 32) 0) ≡ 0 = ap (kind_size (2049 - length key)) (prefix_is_content w g cells ok here key path k) in
-        let weighs : here_size key here ≡ weight (2049 - length key) = ap (kind_size (2049 - length key)) k in
+        let weighs : here_size key here ≡ steps_under (2049 - length key) = ap (kind_size (2049 - length key)) k in
         omega (arith, opened_size (field w (here / 32) 1) (prefix_node w g cells ok here key path k), none, weighs, kept_size top below)
 
-    -- ---- a record is entries_seen
+    -- ---- a record is listed
 
-    pub record_left : kind_at here ≡ Some Content → (value : ℕ → List ℕ) → left_on_way (reading w) value key below top here ≡ (key, value (record_cell here)) ∷ left_on_way (reading w) value key below top 0
+    pub record_left : kind_at here ≡ Some Content → (value : ℕ → List ℕ) → left_by_parts (reading w) value key below top here ≡ (key, value (record_cell here)) ∷ left_by_parts (reading w) value key below top 0
     record_left k value = ap (λ (es : List Entry). es ++ (level_left (reading w) value key top ++ levels_left (reading w) value key below))
-        (ap (behind key) (here_record w value (2048 - length key) here ne k) ∙ ap (λ (x : List ℕ). (x, value (record_cell here)) ∷ []) (append-nil key))
+        (ap (prefixed key) (here_record w value (2048 - length key) here ne k) ∙ ap (λ (x : List ℕ). (x, value (record_cell here)) ∷ []) (append-nil key))
 
   pub record_at : IsAt g key below top 0
   record_at = record { top_is = at.top_is; below_are = at.below_are; here_is = λ z. absurd (z refl) }
@@ -135,7 +135,7 @@ module _ (w : List ℕ) (g : Ledger) (cells : ℕ) (ok : IsWellFormed w g cells)
     here_is = λ z. absurd (z refl);
   }
 
-  pub cut_left : (value : ℕ → List ℕ) → left_on_way (reading w) value (take top.depth key) below top 0 ≡ left_on_way (reading w) value key below top 0
+  pub cut_left : (value : ℕ → List ℕ) → left_by_parts (reading w) value (take top.depth key) below top 0 ≡ left_by_parts (reading w) value key below top 0
   cut_left value = ap (λ (x : List ℕ). level_left (reading w) value x top ++ levels_left (reading w) value x below) (sym (append-nil (take top.depth key)))
       ∙ ap (λ (es : List Entry). es ++ levels_left (reading w) value (take top.depth key ++ []) below) (level_same w value key [] top.depth top (omega arith) at.top_is.depth)
       ∙ ap (λ (es : List Entry). level_left (reading w) value key top ++ es) (levels_same w value g key [] top.depth 0 top.depth below at.below_are (omega arith) at.top_is.depth)
@@ -168,28 +168,28 @@ module _ (w : List ℕ) (g : Ledger) (cells : ℕ) (ok : IsWellFormed w g cells)
       here_is = λ _. child_has_path;
     }
 
-    pub enters_left : (value : ℕ → List ℕ) → left_on_way (reading w) value (take top.depth key ++ e.byte ∷ []) below (level_at top.node (e.byte + 1) top.depth) e.to ≡ left_on_way (reading w) value key below top 0
+    pub enters_left : (value : ℕ → List ℕ) → left_by_parts (reading w) value (take top.depth key ++ e.byte ∷ []) below (level_at top.node (e.byte + 1) top.depth) e.to ≡ left_by_parts (reading w) value key below top 0
     enters_left value =
         let q : List ℕ = take top.depth key in let key' : List ℕ = take top.depth key ++ e.byte ∷ [] in
         let f : ℕ → List Entry = entries_seen (reading w) value (2047 - top.depth) in
-        let behind_it : List Entry = entries_below (reading w) value f top.node (e.byte + 1) (256 - (e.byte + 1)) in
+        let behind_it : List Entry = children_entries (reading w) value f top.node (e.byte + 1) (256 - (e.byte + 1)) in
         let room : 2048 - length key' ≡ 2047 - top.depth = omega (arith, new_length) in
-        let child : here_left (reading w) value key' e.to ≡ behind q (behind (e.byte ∷ []) (f e.to)) =
-        ap (behind key') (rw (ne_eqb e.to 0 least.there) (ap (λ (n : ℕ). entries_seen (reading w) value n e.to) room)) ∙ sym (behind_twice q (e.byte ∷ []) (f e.to)) in
-        let node : level_left (reading w) value key' (level_at top.node (e.byte + 1) top.depth) ≡ behind q behind_it = ap (λ (x : List ℕ). behind x behind_it) same_node in
+        let child : here_left (reading w) value key' e.to ≡ prefixed q (prefixed (e.byte ∷ []) (f e.to)) =
+        ap (prefixed key') (rw (ne_eqb e.to 0 least.there) (ap (λ (n : ℕ). entries_seen (reading w) value n e.to) room)) ∙ sym (behind_twice q (e.byte ∷ []) (f e.to)) in
+        let node : level_left (reading w) value key' (level_at top.node (e.byte + 1) top.depth) ≡ prefixed q behind_it = ap (λ (x : List ℕ). prefixed x behind_it) same_node in
         let others : levels_left (reading w) value key' below ≡ levels_left (reading w) value key below = levels_same w value g key (e.byte ∷ []) top.depth 0 top.depth below at.below_are (omega arith) at.top_is.depth in
-        let whole : level_left (reading w) value key top ≡ behind q (behind (e.byte ∷ []) (f e.to)) ++ behind q behind_it =
-        ap (behind q) (under_least w value f top.node top.next e least) ∙ behind_joined q (behind (e.byte ∷ []) (f e.to)) behind_it in
+        let whole : level_left (reading w) value key top ≡ prefixed q (prefixed (e.byte ∷ []) (f e.to)) ++ prefixed q behind_it =
+        ap (prefixed q) (under_least w value f top.node top.next e least) ∙ behind_joined q (prefixed (e.byte ∷ []) (f e.to)) behind_it in
         ap (λ (es : List Entry). es ++ (level_left (reading w) value key' (level_at top.node (e.byte + 1) top.depth) ++ levels_left (reading w) value key' below)) child
-        ∙ ap (λ (es : List Entry). behind q (behind (e.byte ∷ []) (f e.to)) ++ (es ++ levels_left (reading w) value key' below)) node
-        ∙ ap (λ (es : List Entry). behind q (behind (e.byte ∷ []) (f e.to)) ++ (behind q behind_it ++ es)) others
-        ∙ sym (append_assoc (behind q (behind (e.byte ∷ []) (f e.to))) (behind q behind_it) (levels_left (reading w) value key below))
+        ∙ ap (λ (es : List Entry). prefixed q (prefixed (e.byte ∷ []) (f e.to)) ++ (es ++ levels_left (reading w) value key' below)) node
+        ∙ ap (λ (es : List Entry). prefixed q (prefixed (e.byte ∷ []) (f e.to)) ++ (prefixed q behind_it ++ es)) others
+        ∙ sym (append_assoc (prefixed q (prefixed (e.byte ∷ []) (f e.to))) (prefixed q behind_it) (levels_left (reading w) value key below))
         ∙ ap (λ (es : List Entry). es ++ levels_left (reading w) value key below) (sym whole)
 
     pub enters_size : here_size (take top.depth key ++ e.byte ∷ []) e.to + (level_size (level_at top.node (e.byte + 1) top.depth) + levels_size below) < level_size top + levels_size below
     enters_size = let deep : 2049 - length (take top.depth key ++ e.byte ∷ []) ≡ 2048 - top.depth = omega (arith, new_length) in
-        let most : here_size (take top.depth key ++ e.byte ∷ []) e.to ≤ weight (2048 - top.depth) = subst (λ (n : ℕ). here_size (take top.depth key ++ e.byte ∷ []) e.to ≤ weight n) deep (kind_most (2049 - length (take top.depth key ++ e.byte ∷ [])) (kind_at e.to)) in
-        omega (arith, most, later_size top.next e.byte (weight (2048 - top.depth)) least.least least.byte)
+        let most : here_size (take top.depth key ++ e.byte ∷ []) e.to ≤ steps_under (2048 - top.depth) = subst (λ (n : ℕ). here_size (take top.depth key ++ e.byte ∷ []) e.to ≤ steps_under n) deep (kind_most (2049 - length (take top.depth key ++ e.byte ∷ [])) (kind_at e.to)) in
+        omega (arith, most, later_size top.next e.byte (steps_under (2048 - top.depth)) least.least least.byte)
 
   -- ---- the last node has nothing left
 
@@ -200,12 +200,12 @@ module _ (w : List ℕ) (g : Ledger) (cells : ℕ) (ok : IsWellFormed w g cells)
     here_is = λ z. absurd (z refl);
   }
 
-  pub passes_left : LeastChild ((reading w).child top.node) top.next None → (value : ℕ → List ℕ) → left_on_way (reading w) value key below (level_at top.node 256 top.depth) 0 ≡ left_on_way (reading w) value key below top 0
+  pub passes_left : LeastChild ((reading w).child top.node) top.next None → (value : ℕ → List ℕ) → left_by_parts (reading w) value key below (level_at top.node 256 top.depth) 0 ≡ left_by_parts (reading w) value key below top 0
   passes_left none value = ap (λ (es : List Entry). es ++ levels_left (reading w) value key below)
-      (passed_left w value key (level_at top.node 256 top.depth) (omega arith) ∙ sym (ap (behind (take top.depth key)) (under_end w value (entries_seen (reading w) value (2047 - top.depth)) top.node top.next at.top_is.next none)))
+      (passed_left w value key (level_at top.node 256 top.depth) (omega arith) ∙ sym (ap (prefixed (take top.depth key)) (under_end w value (entries_seen (reading w) value (2047 - top.depth)) top.node top.next at.top_is.next none)))
 
   pub passes_size : top.next < 256 → level_size (level_at top.node 256 top.depth) + levels_size below < level_size top + levels_size below
-  passes_size more = let less = later_size top.next 255 (weight (2048 - top.depth)) (omega arith) (omega arith) in omega (arith, less)
+  passes_size more = let less = later_size top.next 255 (steps_under (2048 - top.depth)) (omega arith) (omega arith) in omega (arith, less)
 
 one_at_least : (a b : ℕ) → 1 ≤ a → 1 ≤ b → 1 ≤ a * b
 one_at_least a b l m = one-le-mul l m
@@ -214,8 +214,8 @@ one_at_least a b l m = one-le-mul l m
 pub pops_at : (g : Ledger) (key : List ℕ) (below : List Level) (last top : Level) → IsAt g key (below ++ last ∷ []) top 0 → IsAt g key below last 0
 pops_at g key below last top at = let i = pop_level g key 0 top.depth last below at.below_are in record { top_is = i.1; below_are = i.0; here_is = λ z. absurd (z refl) }
 
-pub pops_left : (w : List ℕ) (key : List ℕ) (below : List Level) (last top : Level) → 256 ≤ top.next → (value : ℕ → List ℕ) → left_on_way (reading w) value key below last 0 ≡ left_on_way (reading w) value key (below ++ last ∷ []) top 0
+pub pops_left : (w : List ℕ) (key : List ℕ) (below : List Level) (last top : Level) → 256 ≤ top.next → (value : ℕ → List ℕ) → left_by_parts (reading w) value key below last 0 ≡ left_by_parts (reading w) value key (below ++ last ∷ []) top 0
 pops_left w key below last top past value = sym (ap (λ (es : List Entry). es ++ levels_left (reading w) value key (below ++ last ∷ [])) (passed_left w value key top past) ∙ pushed_left w value key last below)
 
 pub pops_size : (below : List Level) (last top : Level) → top.next ≤ 256 → level_size last + levels_size below < level_size top + levels_size (below ++ last ∷ [])
-pops_size below last top most = omega (arith, pushed_size last below, one_at_least (257 - top.next) (1 + weight (2048 - top.depth)) (omega arith) (omega arith))
+pops_size below last top most = omega (arith, pushed_size last below, one_at_least (257 - top.next) (1 + steps_under (2048 - top.depth)) (omega arith) (omega arith))

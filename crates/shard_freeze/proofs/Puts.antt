@@ -12,13 +12,13 @@ use Rattle.trie_image.specs.Paths.{owner}
 use Rattle.trie_image.specs.Puts.{MapsTo}
 use Rattle.trie_image.specs.WellFormed.{IsWellFormed}
 use Rattle.shard_freeze.specs.Sorted.{put_entries, table_made}
-use Rattle.shard_freeze.specs.Listing.{value_of}
+use Rattle.shard_freeze.specs.Listing.{record_value}
 
 -- no two puts have the same first cell, but for the value
 abbrev HaveOwnCells : List Put → Type 0
 HaveOwnCells puts = (m n : ℕ) (a b : Put) → slice_get puts m ≡ Some a → slice_get puts n ≡ Some b → a.cell ≡ b.cell → a.value ≡ b.value
 
-value_at_cell : (puts : List Put) → HaveOwnCells puts → (n : ℕ) (put : Put) → slice_get puts n ≡ Some put → value_of puts put.cell ≡ put.value
+value_at_cell : (puts : List Put) → HaveOwnCells puts → (n : ℕ) (put : Put) → slice_get puts n ≡ Some put → record_value puts put.cell ≡ put.value
 value_at_cell [] own n put at = absurd (cc)
 value_at_cell (p ∷ ps) own zero put at = let e : p ≡ put = cc in let same : p.cell ≡ put.cell = ap (λ (x : Put). x.cell) e in
     rw (eq-eqb p.cell put.cell same) (ap (λ (x : Put). x.value) e)
@@ -52,15 +52,15 @@ module _ (w : List ℕ) (g : Ledger) (cells : ℕ) (ok : IsWellFormed w g cells)
       let there : Some a ≡ Some b = sym x ∙ ap (λ (i : ℕ). slice_get g.puts i) number ∙ y in
       let e : a ≡ b = cc in ap (λ (p : Put). p.value) e
 
-  pub value_is : (n : ℕ) (put : Put) → slice_get g.puts n ≡ Some put → value_of g.puts put.cell ≡ put.value
+  pub value_is : (n : ℕ) (put : Put) → slice_get g.puts n ≡ Some put → record_value g.puts put.cell ≡ put.value
   value_is n put at = value_at_cell g.puts own_cells n put at
 
   abbrev pub valued_by : (ℕ → List ℕ) → Option ℕ → Option (List ℕ)
   valued_by v None = None
   valued_by v (Some cell) = Some (v cell)
 
-  pub value_found : (k : List ℕ) (o : Option ℕ) → MapsTo g.puts k o → valued_by (value_of g.puts) o ≡ map_of.get (table_made g.puts) k
+  pub value_found : (k : List ℕ) (o : Option ℕ) → MapsTo g.puts k o → valued_by (record_value g.puts) o ≡ map_of.get (table_made g.puts) k
   value_found k None none = sym ((gets_last.none (put_entries g.puts) k).1 (lacks_all k g.puts none))
   value_found k (Some cell) (n, put, last, is) =
-      sym ((gets_last.some (put_entries g.puts) k (value_of g.puts cell)).1
-      (subst (λ (v : List ℕ). IsLastValue k v (put_entries g.puts)) (sym (value_is n put last.is_there) ∙ ap (value_of g.puts) is) (last_entry k g.puts n put last.is_there last.same_key last.last)))
+      sym ((gets_last.some (put_entries g.puts) k (record_value g.puts cell)).1
+      (subst (λ (v : List ℕ). IsLastValue k v (put_entries g.puts)) (sym (value_is n put last.is_there) ∙ ap (record_value g.puts) is) (last_entry k g.puts n put last.is_there last.same_key last.last)))

@@ -12,7 +12,7 @@ use Rattle.trie_rule.specs.Seats.{KeptWords}
 use Rattle.shard_freeze.specs.declared.walk.Walk.{Walk}
 use Rattle.shard_freeze.specs.declared.cursor.Entry.{Entry as CursorEntry}
 use Rattle.shard_freeze.specs.Sorted.{entries_from}
-use Rattle.shard_freeze.specs.Listing.{value_of, behind, entries_below, entries_seen, listed_from}
+use Rattle.shard_freeze.specs.Listing.{record_value, prefixed, children_entries, entries_seen, entries_seen_from}
 use Rattle.shard_freeze.specs.Walk.{level_left, levels_left, left_of}
 
 -- a cursor: the shard that it was made by, and the entries that are left, in their order
@@ -41,18 +41,19 @@ IsRecordValue w cell bytes = (g : Ledger) (cells : ℕ) → IsWellFormed w g cel
     → (n : ℕ) (put : Put) → slice_get g.puts n ≡ Some put → put.cell ≡ cell → bytes ≡ put.value
 
 -- a given entry as its key and its value
-abbrev pub given_entry : Option CursorEntry → Option Entry
-given_entry None = None
-given_entry (Some e) = Some (e.key, e.value)
+abbrev pub entry_given : Option CursorEntry → Option Entry
+entry_given None = None
+entry_given (Some e) = Some (e.key, e.value)
 
 -- what a walk over a shard has left
 abbrev pub left_made : KeptWords → Walk → List Entry
-left_made k s = left_of k.words (value_of k.made) s
+left_made k s = left_of k.words (record_value k.made) s
 
--- what a walk has left, where of its pointer only the entries are whose keys, behind the walk's key, aren't below `rest`
+-- what a walk has left, where of its pointer only the entries are whose keys, behind the walk's key, aren't below
+-- `rest`
 abbrev pub sought : List ℕ → (ℕ → List ℕ) → List ℕ → Walk → List Entry
 sought w value rest s =
-    behind s.key.items (entries_from rest (listed_from (reading w) value (2048 - length s.key.items) s.here))
+    prefixed s.key.items (entries_from rest (entries_seen_from (reading w) value (2048 - length s.key.items) s.here))
     ++ (level_left (reading w) value s.key.items s.top ++ levels_left (reading w) value s.key.items s.below.items)
 
 -- the node has the walk's key as its path, is no prefix cell, and from a byte on it lists what the walk's pointer lists
@@ -61,7 +62,7 @@ pub record IsAbove (w : List ℕ) (g : Ledger) (key : List ℕ) (here node : ℕ
   pub kind : kind_at node ≢ Some Prefix
   pub same : (value : ℕ → List ℕ) (b : ℕ) (rest : List ℕ)
       → entries_from (b ∷ rest) (entries_seen (reading w) value (2048 - length key) here)
-      ≡ entries_from (b ∷ rest) (entries_below (reading w) value (entries_seen (reading w) value (2047 - length key)) node 0 256)
+      ≡ entries_from (b ∷ rest) (children_entries (reading w) value (entries_seen (reading w) value (2047 - length key)) node 0 256)
 
 abbrev pub StandsAbove : List ℕ → Walk → ℕ → Type 0
 StandsAbove w s node = (g : Ledger) (cells : ℕ) → IsWellFormed w g cells → IsAbove w g s.key.items s.here node
@@ -76,4 +77,5 @@ PassesRest w s byte s' = (value : ℕ → List ℕ) (rest : List ℕ) → sought
 
 -- the walk has left what the root lists from a string on
 abbrev pub LeavesFrom : List ℕ → ℕ → List ℕ → Walk → Type 0
-LeavesFrom w root from s = (value : ℕ → List ℕ) → left_of w value s ≡ entries_from from (listed_from (reading w) value 2048 root)
+LeavesFrom w root from s = (value : ℕ → List ℕ)
+    → left_of w value s ≡ entries_from from (entries_seen_from (reading w) value 2048 root)

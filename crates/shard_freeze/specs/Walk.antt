@@ -11,25 +11,25 @@ use Rattle.trie_image.specs.Paths.{HasPath}
 use Rattle.trie_image.specs.WellFormed.{IsWellFormed}
 use Rattle.shard_freeze.specs.declared.walk.Level.{Level}
 use Rattle.shard_freeze.specs.declared.walk.Walk.{Walk}
-use Rattle.shard_freeze.specs.Listing.{behind, entries_below, entries_seen, listed_from}
+use Rattle.shard_freeze.specs.Listing.{prefixed, children_entries, entries_seen, entries_seen_from}
 
 module _ (r : Reading) (value : ℕ → List ℕ) where
   -- the entries of the pointer that the walk is at, whose path is the walk's key
   abbrev pub here_left : List ℕ → ℕ → List Entry
-  here_left key p = behind key (listed_from r value (2048 - length key) p)
+  here_left key p = prefixed key (entries_seen_from r value (2048 - length key) p)
 
   -- those of the children that are left of a node on the way
   abbrev pub level_left : List ℕ → Level → List Entry
   level_left key l =
-      behind (take l.depth key) (entries_below r value (entries_seen r value (2047 - l.depth)) l.node l.next (256 - l.next))
+      prefixed (take l.depth key) (children_entries r value (entries_seen r value (2047 - l.depth)) l.node l.next (256 - l.next))
 
   -- those of all nodes on the way, the last one's first
   abbrev pub levels_left : List ℕ → List Level → List Entry
   levels_left key [] = []
   levels_left key (l ∷ ls) = levels_left key ls ++ level_left key l
 
-  abbrev pub left_on_way : List ℕ → List Level → Level → ℕ → List Entry
-  left_on_way key below top here = here_left key here ++ (level_left key top ++ levels_left key below)
+  abbrev pub left_by_parts : List ℕ → List Level → Level → ℕ → List Entry
+  left_by_parts key below top here = here_left key here ++ (level_left key top ++ levels_left key below)
 
 module _ (g : Ledger) where
   -- a node on the way has the first bytes of the walk's key as its path
@@ -40,13 +40,13 @@ module _ (g : Ledger) where
     pub kind : l.next < 256 → kind_at l.node ≢ Some Prefix
 
   -- the nodes on the way, each no deeper than the next, and the last no deeper than `high`
-  abbrev pub AreWayLevels : List ℕ → ℕ → ℕ → List Level → Type 0
-  AreWayLevels key low high [] = low ≤ high
-  AreWayLevels key low high (l ∷ ls) = (low ≤ l.depth) × IsLevel key l × AreWayLevels key l.depth high ls
+  abbrev pub IsStack : List ℕ → ℕ → ℕ → List Level → Type 0
+  IsStack key low high [] = low ≤ high
+  IsStack key low high (l ∷ ls) = (low ≤ l.depth) × IsLevel key l × IsStack key l.depth high ls
 
   pub record IsAt (key : List ℕ) (below : List Level) (top : Level) (here : ℕ) : Type 0 where
     pub top_is : IsLevel key top
-    pub below_are : AreWayLevels key 0 top.depth below
+    pub below_are : IsStack key 0 top.depth below
     pub here_is : here ≢ 0 → HasPath g here key
 
 -- the walk stands in the trie of these words
@@ -55,7 +55,7 @@ StandsInTrie w s = (g : Ledger) (cells : ℕ) → IsWellFormed w g cells → IsA
 
 -- what a walk has left to list, by the values of records
 abbrev pub left_of : List ℕ → (ℕ → List ℕ) → Walk → List Entry
-left_of w value s = left_on_way (reading w) value s.key.items s.below.items s.top s.here
+left_of w value s = left_by_parts (reading w) value s.key.items s.below.items s.top s.here
 
 -- two walks have the same left, whatever the values are
 abbrev pub SameLeft : List ℕ → Walk → Walk → Type 0
@@ -63,13 +63,13 @@ SameLeft w s s' = (value : ℕ → List ℕ) → left_of w value s' ≡ left_of 
 
 -- ---- a number that falls with each step of a walk
 
--- more than all steps entries_below a pointer from which so many bytes go down
-unfoldable pub weight : ℕ → ℕ
-weight zero = 1
-weight (suc n) = 1 + 257 * (1 + weight n)
+-- more than all steps under a pointer from which so many bytes go down
+unfoldable pub steps_under : ℕ → ℕ
+steps_under zero = 1
+steps_under (suc n) = 1 + 257 * (1 + steps_under n)
 
 abbrev pub level_size : Level → ℕ
-level_size l = (257 - l.next) * (1 + weight (2048 - l.depth))
+level_size l = (257 - l.next) * (1 + steps_under (2048 - l.depth))
 
 abbrev pub levels_size : List Level → ℕ
 levels_size [] = 0
@@ -78,7 +78,7 @@ levels_size (l ∷ ls) = level_size l + levels_size ls
 abbrev pub kind_size : ℕ → Option Kind → ℕ
 kind_size n (Some Content) = 0
 kind_size n (Some Nothing) = 0
-kind_size n k = weight n
+kind_size n k = steps_under n
 
 abbrev pub here_size : List ℕ → ℕ → ℕ
 here_size key p = kind_size (2049 - length key) (kind_at p)

@@ -1,13 +1,13 @@
 //! The closed words of a shard and the cursors over them: what the crates above call.
 //!
-//! A cursor has some entries of the shard's sorted map left, and gives them one by one. After want of memory it has those
-//! left that it had.
+//! A cursor has some entries of the shard's sorted map left, and gives them one by one. After want of memory it has
+//! those left that it had.
 
 ghost use Rattle.std.specs.Prelude.{◌≡◌, ◌∷◌, [], IfOk, OnErr};
 ghost use Rattle.trie_image.specs.WellFormed.{HasLedger};
 ghost use Rattle.shard_freeze.specs.Sorted.{entries_made, entries_from};
 ghost use Rattle.shard_freeze.specs.Walk.{StandsInTrie};
-ghost use Rattle.shard_freeze.specs.Cursor.{GivesEntry, GivesInto, given_entry, left_made};
+ghost use Rattle.shard_freeze.specs.Cursor.{GivesEntry, GivesInto, entry_given, left_made};
 
 use crate::record::copy_value;
 use crate::walk::Walk;
@@ -65,7 +65,8 @@ fn list_next(
 ) -> Result<bool, NoMemory>
     requires stands { StandsInTrie words.now.words walk.old }
     ensures stands { StandsInTrie words.now.words walk.new }
-    ensures gives { IfOk result (λ some. GivesInto (left_made words.now walk.old) some key.new value.new (left_made words.now walk.new)) }
+    ensures gives { let left = left_made words.now in
+        IfOk result (λ some. GivesInto (left walk.old) some key.new value.new (left walk.new)) }
     ensures err { OnErr result (left_made words.now walk.new ≡ left_made words.now walk.old) }
 {
     words.is_standing();
@@ -83,7 +84,8 @@ fn list_next(
 /// The walk to the first key that isn't below `from`.
 fn walk_from(alloc: Global, words: &Words, from: &[u8]) -> Result<Walk, NoMemory>
     ensures stands { IfOk result (λ walk. StandsInTrie words.now.words walk) }
-    ensures left { IfOk result (λ walk. left_made words.now walk ≡ entries_from from.now (entries_made words.now.made)) }
+    ensures left { let all = entries_made words.now.made in
+        IfOk result (λ walk. left_made words.now walk ≡ entries_from from.now all) }
 {
     words.is_standing();
     let mut walk = Walk::at_root(alloc, words);
@@ -113,8 +115,8 @@ impl Frozen {
 
     /// Puts the next entry into two buffers, in place of what stands there, and answers whether there was one.
     ///
-    /// The buffers keep what they have allocated, so a walk over a shard allocates little. Where there was no memory, they may
-    /// hold a part of the entry.
+    /// The buffers keep what they have allocated, so a walk over a shard allocates little. Where there was no memory,
+    /// they may hold a part of the entry.
     pub fn next_into(
         &self,
         cursor: &mut Cursor,
@@ -133,7 +135,7 @@ impl Frozen {
     pub fn next(&self, alloc: Global, cursor: &mut Cursor) -> Result<Option<Entry>, NoMemory>
         requires { cursor.old.frozen ≡ self.now }
         ensures own { cursor.new.frozen ≡ self.now }
-        ensures gives { IfOk result (λ entry. GivesEntry cursor.old.left (given_entry entry) cursor.new.left) }
+        ensures gives { IfOk result (λ entry. GivesEntry cursor.old.left (entry_given entry) cursor.new.left) }
         ensures err { OnErr result (cursor.new.left ≡ cursor.old.left) }
     {
         let mut key = ByteList::new(alloc);

@@ -1,5 +1,5 @@
-//! The words of a shard that is closed, listed as the sorted map of its puts. A flush walks it, and so does whoever prints
-//! a shard.
+//! The words of a shard that is closed, listed as the sorted map of its puts. A flush walks it, and so does whoever
+//! prints a shard.
 #![tactic(auto)]
 
 ghost use Rattle.shard_freeze.specs.Listing.{LawLists};
@@ -12,7 +12,7 @@ mod walk;
 
 pub use cursor::{Cursor, Entry, Frozen};
 
-/// The entries that the root of a well-formed image sees, its children by ascending bytes, are those of the sorted map of
+/// The entries that the root of a well-formed image sees, children by ascending bytes, are those of the sorted map of
 /// its puts.
 pub fn law_lists()
     ensures { LawLists }

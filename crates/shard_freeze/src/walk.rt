@@ -1,7 +1,7 @@
 //! A walk over a trie in the order of keys. The cursor keeps one, and moves it from record to record.
 //!
-//! The walk's key is the path of the pointer that it is at. On the way to it lie nodes of which children under greater bytes
-//! are left. What is left to list is the same after every step, also where a step finds no memory.
+//! The walk's key is the path of the pointer that it is at. On the way to it lie nodes of which children under greater
+//! bytes are left. What is left to list is the same after every step, also where a step finds no memory.
 
 ghost use Rattle.std.specs.Prelude.{◌≡◌, ◌≢◌, ◌<◌, ◌≤◌, [], length, Some, IsTrue, IfOk, OnOk, OnErr};
 ghost use Rattle.cell_layout.specs.declared.Kind.TheVariants.{Content};
@@ -16,8 +16,8 @@ use key_types::NoMemory;
 use std::alloc::Global;
 use trie_rule::Words;
 
-/// A node on the way. Its children under the bytes from `next` on are left; from 256 on there are none. `depth` is the length
-/// of its path.
+/// A node on the way. Its children under the bytes from `next` on are left; from 256 on there are none. `depth` is the
+/// length of its path.
 #[derive(Clone, Copy, PartialEq, Eq, Debug)]
 pub struct Level {
     pub node: u32,
@@ -25,8 +25,8 @@ pub struct Level {
     pub depth: usize,
 }
 
-/// The pointer that the walk is at, or 0 where it goes on with the last node on the way; its path; and the nodes on the way,
-/// of which `top` is the last one.
+/// The pointer that the walk is at, or 0 where it goes on with the last node on the way; its path; and the nodes on the
+/// way, of which `top` is the last one.
 #[derive(Debug, Drop)]
 pub struct Walk {
     pub key: Vec<u8>,

@@ -97,13 +97,13 @@ get_less (y ∷ ys) (suc i) x e = let h = get_less ys i x e in omega arith
 pub shards_ascend : (bounds : List (List ℕ)) (shards : List KeptWords) → BoundsAscend bounds → length shards ≡ length bounds + 1 → KeysLie bounds shards → ShardsAscend shards
 shards_ascend bounds shards up count lie i j m n one other p q less a b c d =
     let last : j < length shards = get_less shards j other b in
-    let under : string_cmp p.key (bound_at bounds i) ≡ Less = (lie i m one p a c).high (omega (arith, last, count, less)) in
+    let children_entries : string_cmp p.key (bound_at bounds i) ≡ Less = (lie i m one p a c).high (omega (arith, last, count, less)) in
     let over : is_reached q.key (bound_at bounds (j - 1)) ≡ true = (lie j n other q b d).low (omega (arith, less)) in
-    by (j - 1 - i) refl under over last
+    by (j - 1 - i) refl children_entries over last
   where
     by : (e : ℕ) → j - 1 - i ≡ e → string_cmp p.key (bound_at bounds i) ≡ Less → is_reached q.key (bound_at bounds (j - 1)) ≡ true → j < length shards → string_cmp p.key q.key ≡ Less
-    by zero e under over last = let k : j - 1 ≡ i = omega (arith, e, less) in less_then_le p.key (bound_at bounds i) q.key under (ap (λ (x : ℕ). is_reached q.key (bound_at bounds x)) (sym k) ∙ over)
-    by (suc e) is under over last = let k : i + suc e ≡ j - 1 = omega (arith, is, less) in
+    by zero e children_entries over last = let k : j - 1 ≡ i = omega (arith, e, less) in less_then_le p.key (bound_at bounds i) q.key children_entries (ap (λ (x : ℕ). is_reached q.key (bound_at bounds x)) (sym k) ∙ over)
+    by (suc e) is children_entries over last = let k : i + suc e ≡ j - 1 = omega (arith, is, less) in
         less_then_le p.key (bound_at bounds (j - 1)) q.key
-        (nat_list_cmp_total.trans p.key (bound_at bounds i) (bound_at bounds (j - 1)) under (subst (λ (x : ℕ). string_cmp (bound_at bounds i) (bound_at bounds x) ≡ Less) k (later_bound bounds up e i (omega (arith, last, count, k, less)))))
+        (nat_list_cmp_total.trans p.key (bound_at bounds i) (bound_at bounds (j - 1)) children_entries (subst (λ (x : ℕ). string_cmp (bound_at bounds i) (bound_at bounds x) ≡ Less) k (later_bound bounds up e i (omega (arith, last, count, k, less)))))
         over

@@ -54,4 +54,5 @@ ShardsAscend shards = (i j m n : ℕ) (one other : KeptWords) (p q : Put) → i 
 
 -- where bounds ascend, each string lies in its shard
 abbrev pub LawShardOf : Type 0
-LawShardOf = (bounds : List (List ℕ)) (string : List ℕ) → BoundsAscend bounds → LiesIn bounds (shard_index bounds string) string
+LawShardOf = (bounds : List (List ℕ)) (string : List ℕ) → BoundsAscend bounds
+    → LiesIn bounds (shard_index bounds string) string

@@ -1,5 +1,5 @@
-//! The shards of a table: each has the partitions between two bounds, cells of its own, and the seats of its writer and its
-//! readers. Whoever runs batches holds a table and its workers; in the end it is closed, and its shards are listed.
+//! The shards of a table: each has the partitions between two bounds, cells of its own, and the seats of its writer and
+//! its readers. Whoever runs batches holds a table and its workers; in the end it is closed, and its shards are listed.
 #![tactic(auto)]
 
 ghost use Rattle.shard_table.specs.Shards.{LawShardOf};

@@ -51,7 +51,8 @@ impl Model for ShardTable {
 }
 
 impl ShardTable {
-    /// The shards between the bounds, of so many cells each, with a writer and so many readers. Each partition belongs to one shard.
+    /// The shards between the bounds, of so many cells each, with a writer and so many readers. Each partition belongs to
+    /// one shard.
     ///
     /// BadBounds comes before any memory is asked for.
     pub fn new(
@@ -72,7 +73,8 @@ impl ShardTable {
         ensures cells { IfOk result (λ made. HaveCells cells made.0.shards) }
         ensures writers { IfOk result (λ made. AreEach IsNewWriter made.0.shards made.1.writers.items) }
         ensures reader_count { IfOk result (λ made. vec_len made.1.readers ≡ readers) }
-        ensures readers { IfOk result (λ made. All (λ seats. AreEach IsNewReader made.0.shards seats.items) made.1.readers.items) }
+        ensures readers { IfOk result (λ made.
+            All (λ seats. AreEach IsNewReader made.0.shards seats.items) made.1.readers.items) }
     {
         if let Some(place) = first_unordered(&bounds) {
             return Err(TableError::BadBounds(place));

@@ -8,7 +8,8 @@ use key_types::NoMemory;
 use std::alloc::Global;
 use trie_rule::{ReadSeat, ShardCells, WriteSeat};
 
-/// One writer's seat for each shard, and one seat for each reader and shard: `readers[q][i]` is that of reader `q` at shard `i`.
+/// One writer's seat for each shard, and one seat for each reader and shard: `readers[q][i]` is that of reader `q` at
+/// shard `i`.
 #[derive(Drop)]
 pub struct Workers {
     pub writers: Vec<WriteSeat>,

@@ -1,7 +1,7 @@
 use Rattle.std.proofs.Common.{◌≡◌, ◌∷◌, ◌++◌, [], ℕ, List, Option, ◌∙◌, ap, refl, subst, sym}
 use Rattle.outside.specs.Files.{Files, bytes_of}
 use Rattle.bti_reader.specs.Searches.{after_in}
-use Rattle.bti_reader.specs.Ways.{IsWayIn, LeadsToNode}
+use Rattle.bti_reader.specs.Ways.{IsWayIn, LeadsToHit}
 use Rattle.bti_reader.proofs.Asking.{join}
 use Rattle.bti_reader.proofs.Walking.{after_path}
 use Rattle.bti_reader.proofs.Ways.{start_root, start_way, where_found}
@@ -29,7 +29,7 @@ first_into-requires-clause-way g c =
     (c.in_ok-reached.ensures ∙ c.split_at-2.ensures.front) way (rw c.in-Some.is at child)))
 
 pub returns-clause-way : goal.returns-clause-way
-returns-clause-way g c = subst (λ (files : Option Files). LeadsToNode files c.args.file c.first_into.new.nodes c.first_into.result) c.next_start.ensures.files c.first_into.ensures.way
+returns-clause-way g c = subst (λ (files : Option Files). LeadsToHit files c.args.file c.first_into.new.nodes c.first_into.result) c.next_start.ensures.files c.first_into.ensures.way
 
 pub returns-clause-root : goal.returns-clause-root
 returns-clause-root g c =
