@@ -1,5 +1,5 @@
 -- The bytes of a value, copied word by word, and what a reader knew of a list of puts.
-use Rattle.std.proofs.Common.{◌≡◌, ℕ, zero, suc, ◌+◌, ◌-◌, ◌*◌, ◌<◌, ◌≤◌, Bool, true, false, List, length, take, ◌++◌, slice_index, Option, Some, None, refl, sym, ap, ◌∙◌, subst, arith, append_assoc}
+use Rattle.std.proofs.Common.{◌≡◌, ℕ, zero, suc, ◌+◌, ◌-◌, ◌*◌, ◌<◌, ◌≤◌, Bool, true, false, List, length, take, ◌++◌, slice_index, Option, refl, sym, ap, ◌∙◌, subst, arith, append_assoc}
 use Rattle.std.specs.Prelude.{nat_lt}
 use Rattle.std.specs.Int.{w64, to_le_bytes}
 use Rattle.std.proofs.lemmas.List.{ext_get_or, length-take-le, get_or-append-add, get_or_append_left}
@@ -9,7 +9,6 @@ use Rattle.cell_layout.specs.Words.{byte_of}
 use Rattle.trie_image.specs.declared.Put.{Put}
 use Rattle.trie_image.specs.declared.Rec.{Rec}
 use Rattle.trie_image.specs.Puts.{IsRecOf, HasLastPut}
-use Rattle.trie_machine.specs.declared.Find.{Find}
 use Rattle.trie_machine.specs.Events.{HasWord, value_word_at}
 use Rattle.trie_rule.specs.declared.views.ReadView.{ReadView}
 use Rattle.trie_rule.specs.Rule.{IsStartOf}

@@ -1,5 +1,5 @@
 -- A find under way, from one place of its walk to a later one. This project's own.
-use Rattle.std.specs.Prelude.{◌≡◌, ℕ, ◌+◌, ◌*◌, ◌≤◌, List, length, Some}
+use Rattle.std.specs.Prelude.{◌≡◌, ℕ, ◌+◌, ◌*◌, ◌≤◌, List, Some}
 use Rattle.trie_image.specs.declared.Place.{Place}
 use Rattle.trie_image.specs.declared.Advance.{Advance}
 use Rattle.trie_image.specs.declared.Advance.TheVariants.{On, Found, Absent}

@@ -1,4 +1,4 @@
-use Rattle.std.proofs.Common.{◌*◌, arith, ap, refl}
+use Rattle.std.proofs.Common.{◌*◌, ap, refl}
 use Rattle.trie_reader.specs.Passing.{find_at}
 use Rattle.trie_reader.proofs.Passing.{loaded, counted, there}
 use Rattle.trie_reader.proofs.pass.load.Goals as goal

@@ -1,0 +1,5 @@
+use Rattle.trie_writer.specs.Written.{MayWrite}
+use Rattle.shard_bench.proofs.put_all.Given as goal
+
+abbrev pub invariant-puts : goal.invariant-puts
+invariant-puts g l = MayWrite l.cells l.seat
