@@ -12,17 +12,17 @@ use Rattle.table_tool.specs.declared.status.Status.{Status}
 use Rattle.table_tool.specs.declared.status.Status.TheVariants as status
 use Rattle.table_tool.specs.Outside.{Outside, SinkFails, StoreFails}
 use Rattle.table_tool.specs.Outcome.{IsOrNoMemory}
-use Rattle.table_tool.specs.Printed.{rows_text}
+use Rattle.table_tool.specs.Printed.{IsTableText}
 use Rattle.table_tool.specs.Request.{AskLoad, AskScan}
 use Rattle.table_tool.specs.Rows.{rows_of}
 use Rattle.table_tool.specs.Run.{RunEnds}
 
--- The lines of these bytes are those of a script under these columns. A run that was Ok printed exactly the rows and static
--- values of the sorted map of all their puts, and how many rows there are.
+-- The lines of these bytes are those of a script under these columns. A run that was Ok printed exactly the lines of the rows
+-- and static values of the sorted map of all their puts, and how many rows there are.
 pub record PrintsAllPuts (columns : Columns) (bytes : List ℕ) (before after : Outside) (result : Status) : Type 0 where
   pub puts : List Put
   pub accepted : AreAcceptedLines columns 1 (lines_of bytes) puts
-  pub printed : result ≡ status.Ok → WhereTold before.written after.written (λ old new. new ≡ old ++ rows_text columns (rows_of puts))
+  pub printed : result ≡ status.Ok → WhereTold before.written after.written (λ old new. (text : List ℕ) × IsTableText columns (rows_of puts) text × (new ≡ old ++ text))
   -- where neither store nor sink failed, it was Ok, want of memory aside
   pub complete : ¬ (StoreFails before after) → ¬ (SinkFails before after) → IsOrNoMemory status.Ok result
 

@@ -1,11 +1,12 @@
 -- What is printed of rows and static values. This project's own.
-use Rattle.std.specs.Prelude.{◌≡◌, ℕ, true, false, List, [], ◌∷◌, ◌++◌, Option, Some, None, Result, Ok, Err, codes}
+use Rattle.std.specs.Prelude.{◌≡◌, ℕ, ◌+◌, true, false, List, [], ◌∷◌, ◌++◌, Option, Some, None, Result, Ok, Err, codes}
 use Rattle.std.specs.Fmt.{decimal}
 use Rattle.key_types.specs.declared.schema.ValueType.{ValueType}
 use Rattle.key_types.specs.Columns.{Columns}
 use Rattle.key_types.specs.Kinds.{Vals, EachFits}
 use Rattle.key_types.specs.Table.{Entry}
 use Rattle.byte_comparable.specs.Encoding.{key_string}
+use Rattle.byte_comparable.specs.Order.{Key, KeyFits, string_of_key}
 use Rattle.key_decode.specs.Reading.{values_at}
 use Rattle.key_text.specs.Written.{row_literal, static_literal}
 use Rattle.table_tool.specs.Entries.{is_row, row_count}
@@ -55,6 +56,31 @@ count_line n = codes "rows " ++ decimal n ++ codes "\n"
 -- the lines of the entries in order, and the last line, which counts rows alone
 abbrev pub rows_text : Columns → List Entry → List ℕ
 rows_text columns entries = entry_lines columns entries ++ count_line (row_count columns entries)
+
+-- ---- the same by typed keys, as the headline says it
+
+-- the line of a typed key and its value: of a row, or of a static value
+abbrev pub key_line : Columns → Vals → Option Vals → List ℕ → List ℕ
+key_line columns partition (Some clustering) value = row_line columns partition clustering value
+key_line columns partition None value = static_by columns columns.static_value partition value
+
+-- how many rows a key is
+abbrev pub rows_of_key : Option Vals → ℕ
+rows_of_key (Some clustering) = 1
+rows_of_key None = 0
+
+-- these are the lines of the entries in order: each names the typed key of which the entry's string is, and so many are rows
+abbrev pub AreKeyLines : Columns → List Entry → List ℕ → ℕ → Type 0
+AreKeyLines columns [] lines rows = (lines ≡ []) × (rows ≡ 0)
+AreKeyLines columns (entry ∷ entries) lines rows =
+    (key : Key) × (more : List ℕ) × (others : ℕ)
+    × KeyFits columns.partition columns.clustering key × (entry.0 ≡ string_of_key columns.partition columns.clustering key)
+    × (lines ≡ key_line columns key.partition key.clustering entry.1 ++ more) × (rows ≡ rows_of_key key.clustering + others)
+    × AreKeyLines columns entries more others
+
+-- the lines of the entries, and the last line
+abbrev pub IsTableText : Columns → List Entry → List ℕ → Type 0
+IsTableText columns entries text = (lines : List ℕ) × (rows : ℕ) × AreKeyLines columns entries lines rows × (text ≡ lines ++ count_line rows)
 
 -- ---- the law
 
