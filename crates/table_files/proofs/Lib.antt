@@ -4,4 +4,4 @@ mod Determined
 pub mod Strings
 pub mod Blocked
 pub mod Numbering
-mod Indexed
+pub mod Indexed

@@ -1,0 +1,11 @@
+mod Stores
+mod Moves
+mod Lists
+mod Next
+mod Turns
+mod Steps
+mod Ends
+mod Prefixes
+mod Adds
+mod Finish
+mod Final

@@ -1,0 +1,4 @@
+pub mod Growing
+pub mod Given
+pub mod Current
+pub mod Writing
