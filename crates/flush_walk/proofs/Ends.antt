@@ -23,7 +23,7 @@ use Rattle.flush_walk.specs.Current.{number_turned, rows_turned}
 use Rattle.flush_walk.specs.Given.{Flushing, current_bytes, growing_of, listed, opened, opened_bytes, partitions_given, turned}
 use Rattle.flush_walk.specs.Growing.{Growing, Grows, Torn, with_bytes}
 use Rattle.flush_walk.specs.Writing.{AreCounts, Goes, IsCurrent, IsHeld, WritesTable, has_blocks, rows_in_all}
-use Rattle.page_packer.specs.Early.{IsPrefix}
+use Rattle.page_packer.specs.Early.{IsBeginning}
 use Rattle.partition_index.specs.File.{early_index, index_bytes_for}
 use Rattle.partition_index.proofs.Settled.{early_index_grows}
 use Rattle.flush_walk.proofs.Moves.{all_prefix, cut_on}
@@ -166,7 +166,7 @@ module _ (s : TableWriter) (v : Flushing) (p : Partition) (f : Option Files) (h 
       ap (λ (t : Growing). with_bytes t end_bytes) index_is
       ∙ (λ i. record (growing_of (turned (opened v p))) { listing = listing_closed type v.closed p i })
 
-  index_goes_on : IsPrefix (early_index (all_numbered (placed type v.closed))) (early_index (all_numbered (placed type (v.closed ++ p ∷ []))))
+  index_goes_on : IsBeginning (early_index (all_numbered (placed type v.closed))) (early_index (all_numbered (placed type (v.closed ++ p ∷ []))))
   index_goes_on =
       (index_bytes_for (all_numbered (placed type v.closed)) number, ap early_index (numbered_closed v p) ∙ early_index_grows (all_numbered (placed type v.closed)) number all_fine)
 
@@ -177,7 +177,7 @@ module _ (s : TableWriter) (v : Flushing) (p : Partition) (f : Option Files) (h 
   pub index_torn_on : (f' : Option Files) → Torn numbered_growing f' → Torn (growing_of (turned (opened v p))) f'
   index_torn_on f' torn =
       cut_on (growing_of (turned (opened v p))) _ _ f' (end_bytes, sym (listing_closed type v.closed p)) (all_prefix _)
-      (subst (λ (t : Growing). IsPrefix (early_index t.index.partitions) (early_index (growing_of (turned (opened v p))).index.partitions)) (sym index_is) (all_prefix _)) torn
+      (subst (λ (t : Growing). IsBeginning (early_index t.index.partitions) (early_index (growing_of (turned (opened v p))).index.partitions)) (sym index_is) (all_prefix _)) torn
 
   pub closed_torn : (f' : Option Files) → Torn (with_bytes numbered_growing end_bytes) f' → Torn (growing_of (turned (opened v p))) f'
   closed_torn f' torn = subst (λ (t : Growing). Torn t f') closed_is torn

@@ -12,7 +12,7 @@ use Rattle.outside.proofs.Sets.{get-same}
 use Rattle.key_types.specs.Table.{Table}
 use Rattle.data_file.specs.Listing.{Partition, data_bytes}
 use Rattle.data_file.specs.declared.writer.Counts.{Counts}
-use Rattle.page_packer.specs.Early.{IsPrefix}
+use Rattle.page_packer.specs.Early.{IsBeginning}
 use Rattle.table_files.specs.IndexMeaning.{IndexFilesStand}
 use Rattle.table_files.specs.Indexes.{partitions_file, placed, rows_file}
 use Rattle.table_files.specs.Names.{data_id, partitions_id, rows_id, schema_id}
@@ -118,7 +118,7 @@ module _ (w : Flushing) (table : AreOfTable w.columns (partitions_given w)) wher
 
   cut_begun : (part : FourFiles) → AreCut part (ended t) → AreBegun part (files_of_table w.columns all)
   cut_begun part cut = record {
-    listing = subst (λ (bs : List ℕ). IsPrefix part.listing bs) listing_is cut.listing;
+    listing = subst (λ (bs : List ℕ). IsBeginning part.listing bs) listing_is cut.listing;
     rows = cut.rows;
     partitions = cut.partitions;
     schema = (text, ap (λ (bs : List ℕ). bs ++ text) (sym cut.schema));

@@ -7,7 +7,7 @@ use Rattle.outside.specs.Told.{WhereTold}
 use Rattle.outside.specs.declared.store.FileId.{FileId}
 use Rattle.outside.proofs.Sets.{bytes_of-same, get-same}
 use Rattle.data_file.specs.Writing.{AppendsWhole, GrowsBy, PutsAllBut}
-use Rattle.page_packer.specs.Early.{IsPrefix}
+use Rattle.page_packer.specs.Early.{IsBeginning}
 use Rattle.partition_index.specs.File.{early_index, last_index_bytes, partition_file}
 use Rattle.partition_index.proofs.Settled.{index_ends}
 use Rattle.row_index.specs.Entries.{Block}
@@ -35,10 +35,10 @@ module _ (s : GrowingFiles) (t : Growing) (f0 : Option Files) (h : Grows s t f0)
   index_whole : partition_file t.index.partitions ≡ early_index t.index.partitions ++ last_index_bytes t.index.partitions
   index_whole = index_ends t.index.partitions h.index.trie.fine
 
-  rows_part : IsPrefix (early_rows t.rows) (row_file t.rows.done)
+  rows_part : IsBeginning (early_rows t.rows) (row_file t.rows.done)
   rows_part = ([], sym rows_whole ∙ sym (append-nil (early_rows t.rows)))
 
-  index_part : IsPrefix (early_index t.index.partitions) (partition_file t.index.partitions)
+  index_part : IsBeginning (early_index t.index.partitions) (partition_file t.index.partitions)
   index_part = (last_index_bytes t.index.partitions, index_whole)
 
   -- ---- Data.db

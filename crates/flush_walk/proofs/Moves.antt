@@ -10,7 +10,7 @@ use Rattle.key_types.specs.declared.schema.ValueType.{ValueType}
 use Rattle.data_file.specs.Listing.{row_bytes, rows_bytes, static_bytes, static_part_bytes}
 use Rattle.data_file.specs.Writing.{GrowsBy, PutsAllBut, PutsButHeld, Writing}
 use Rattle.page_packer.specs.Packing.{AppendsSome}
-use Rattle.page_packer.specs.Early.{IsPrefix}
+use Rattle.page_packer.specs.Early.{IsBeginning}
 use Rattle.partition_index.specs.File.{early_index}
 use Rattle.partition_index.specs.Entries.{Numbered}
 use Rattle.partition_index.specs.Writing.{HasRoom, Indexing, WritesIndex, with_partition}
@@ -25,7 +25,7 @@ use Rattle.flush_walk.specs.Given.{rows_given}
 use Rattle.flush_walk.specs.Growing.{AreCut, CutOff, FourFiles, Growing, Grows, HaveBytes, Moves, StandsNow, Torn, standing, with_bytes}
 use Rattle.flush_walk.proofs.Stores.{GrewAll, GrewFront, GrowsFront, appends_all, appends_front, some_all, some_front, listing_grown, partitions_grown, rows_grown, told_so, told_then}
 
-pub all_prefix : (bytes : List ℕ) → IsPrefix bytes bytes
+pub all_prefix : (bytes : List ℕ) → IsBeginning bytes bytes
 all_prefix bytes = ([], sym (append-nil bytes))
 
 -- ---- bytes for Data.db
@@ -244,10 +244,10 @@ no_static_part s t f (Some type) value none h = cc
 
 -- ---- one piece behind the other
 
-pub prefix_on : (a b c : List ℕ) → IsPrefix a b → IsPrefix b c → IsPrefix a c
+pub prefix_on : (a b c : List ℕ) → IsBeginning a b → IsBeginning b c → IsBeginning a c
 prefix_on a b c (x, e) (y, f) = (x ++ y, f ∙ ap (λ (bs : List ℕ). bs ++ y) e ∙ append_assoc a x y)
 
-cut_step : (a b part : FourFiles) → IsPrefix a.listing b.listing → IsPrefix a.rows b.rows → IsPrefix a.partitions b.partitions → AreCut part a → AreCut part b
+cut_step : (a b part : FourFiles) → IsBeginning a.listing b.listing → IsBeginning a.rows b.rows → IsBeginning a.partitions b.partitions → AreCut part a → AreCut part b
 cut_step a b part listing rows partitions h = record {
   listing = prefix_on part.listing a.listing b.listing h.listing listing;
   rows = prefix_on part.rows a.rows b.rows h.rows rows;
@@ -256,7 +256,7 @@ cut_step a b part listing rows partitions h = record {
 }
 
 -- a part of what stands is a part of what goes on from there
-pub cut_on : (t : Growing) (a b : FourFiles) (f : Option Files) → IsPrefix a.listing b.listing → IsPrefix a.rows b.rows → IsPrefix a.partitions b.partitions
+pub cut_on : (t : Growing) (a b : FourFiles) (f : Option Files) → IsBeginning a.listing b.listing → IsBeginning a.rows b.rows → IsBeginning a.partitions b.partitions
     → CutOff t a f → CutOff t b f
 cut_on t a b f listing rows partitions cut = told_so t.before f _ _ (λ old new p. (p.0, cut_step a b p.0 listing rows partitions p.1, p.2)) cut
 

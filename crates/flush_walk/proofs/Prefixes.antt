@@ -5,13 +5,13 @@ use Rattle.outside.specs.Files.{Files}
 use Rattle.key_types.specs.Columns.{Columns}
 use Rattle.key_types.specs.declared.schema.ValueType.{ValueType}
 use Rattle.data_file.specs.Listing.{Partition, Row, data_bytes, end_bytes, head_bytes, partition_bytes, rows_bytes, static_part_bytes}
-use Rattle.page_packer.specs.Early.{IsPrefix}
+use Rattle.page_packer.specs.Early.{IsBeginning}
 use Rattle.partition_index.specs.Entries.{AreNumbered}
 use Rattle.partition_index.specs.File.{early_index, partition_file}
 use Rattle.partition_index.proofs.Settled.{early_index_stands}
 use Rattle.row_index.specs.Entries.{AreBlockLists, Block, BlockList}
 use Rattle.row_index.specs.File.{row_file}
-use Rattle.row_index.specs.Laws.{IsBegun}
+use Rattle.row_index.specs.Laws.{IsBegunFile}
 use Rattle.row_index.specs.Writing.{early_rows}
 use Rattle.row_index.proofs.Growing.{early_rows_stand}
 use Rattle.table_files.specs.Blocks.{block_begun, block_start, blocks_among, blocks_behind, blocks_of, rows_at}
@@ -47,7 +47,7 @@ opened_goes_on static p more =
     ∙ sym (append_assoc head (part ++ rows) rest)
 
 listing_prefix : (static : Option ValueType) (closed : List Partition) (current : Option Partition) (ps : List Partition) → GoOnFrom closed current ps
-    → IsPrefix (data_bytes static closed ++ current_bytes static current) (data_bytes static ps)
+    → IsBeginning (data_bytes static closed ++ current_bytes static current) (data_bytes static ps)
 listing_prefix static closed None ps (rest, is) =
     (data_bytes static rest, ap (data_bytes static) is ∙ data_parted static closed rest ∙ ap (λ (bs : List ℕ). bs ++ data_bytes static rest) (sym (append-nil (data_bytes static closed))))
 listing_prefix static closed (Some p) ps (q, rest, is, c) =
@@ -81,7 +81,7 @@ indexed_behind : (static : Option ValueType) (closed rest : List Partition)
 indexed_behind static closed rest =
     ap all_indexed (placed_parted static 0 closed rest) ∙ indexed_parted (placed static closed) (placed_from static (0 + length (data_bytes static closed)) rest)
 
-begun_in : (one : BlockList) (bs all : List Block) (more : List BlockList) → one.blocks ≡ all → ((rest : List Block) × (all ≡ bs ++ rest)) → IsBegun bs (row_indexed one all ++ more)
+begun_in : (one : BlockList) (bs all : List Block) (more : List BlockList) → one.blocks ≡ all → ((rest : List Block) × (all ≡ bs ++ rest)) → IsBegunFile bs (row_indexed one all ++ more)
 begun_in one [] all more is rest = tt
 begun_in one (b ∷ bs) [] more is (rest, e) = cc
 begun_in one (b ∷ bs) (c ∷ all) more is (rest, e) = (rest, is ∙ e)
@@ -91,17 +91,17 @@ module _ (w : Flushing) (ps : List Partition) (h : AreOfTable w.columns ps) wher
   static = w.columns.static_value
 
   rows_by : (closed rest : List Partition) (begun : List Block) → ps ≡ closed ++ rest
-      → IsBegun begun (all_indexed (placed_from static (0 + length (data_bytes static closed)) rest))
-      → IsPrefix (early_rows (record (growing_of w).rows { done = all_indexed (placed static closed); begun = begun })) (row_file (all_indexed (placed static ps)))
+      → IsBegunFile begun (all_indexed (placed_from static (0 + length (data_bytes static closed)) rest))
+      → IsBeginning (early_rows (record (growing_of w).rows { done = all_indexed (placed static closed); begun = begun })) (row_file (all_indexed (placed static ps)))
   rows_by closed rest begun is starts =
       let lists = ap (λ (xs : List Partition). all_indexed (placed static xs)) is ∙ indexed_behind static closed rest in
       let more = all_indexed (placed_from static (0 + length (data_bytes static closed)) rest) in
       let rows = record (growing_of w).rows { done = all_indexed (placed static closed); begun = begun } in
-      subst (λ (ls : List BlockList). IsPrefix (early_rows rows) (row_file ls)) (sym lists)
+      subst (λ (ls : List BlockList). IsBeginning (early_rows rows) (row_file ls)) (sym lists)
       (early_rows_stand rows more (subst AreBlockLists lists (are_lists w.columns ps h)) starts)
 
   rows_prefix : (current : Option Partition) → GoOnFrom w.closed current ps
-      → IsPrefix (early_rows (record (growing_of w).rows { begun = current_blocks static current })) (row_file (all_indexed (placed static ps)))
+      → IsBeginning (early_rows (record (growing_of w).rows { begun = current_blocks static current })) (row_file (all_indexed (placed static ps)))
   rows_prefix None (rest, is) = rows_by w.closed rest [] is tt
   rows_prefix (Some p) (q, rest, is, c) =
       let one = placed_at static (0 + length (data_bytes static w.closed)) q in
@@ -112,15 +112,15 @@ module _ (w : Flushing) (ps : List Partition) (h : AreOfTable w.columns ps) wher
 
   -- ---- Partitions.db
 
-  index_by : (closed rest : List Partition) → ps ≡ closed ++ rest → IsPrefix (early_index (all_numbered (placed static closed))) (partition_file (all_numbered (placed static ps)))
+  index_by : (closed rest : List Partition) → ps ≡ closed ++ rest → IsBeginning (early_index (all_numbered (placed static closed))) (partition_file (all_numbered (placed static ps)))
   index_by closed rest is =
       let behind = numbered_from (0 + length (row_file (all_indexed (placed static closed)))) (placed_from static (0 + length (data_bytes static closed)) rest) in
       let all = ap (λ (xs : List Partition). all_numbered (placed static xs)) is
       ∙ ap all_numbered (placed_parted static 0 closed rest) ∙ numbered_parted 0 (placed static closed) (placed_from static (0 + length (data_bytes static closed)) rest) in
-      subst (λ ns. IsPrefix (early_index (all_numbered (placed static closed))) (partition_file ns)) (sym all)
+      subst (λ ns. IsBeginning (early_index (all_numbered (placed static closed))) (partition_file ns)) (sym all)
       (early_index_stands (all_numbered (placed static closed)) behind (subst AreNumbered all (are_numbered w.columns ps h)))
 
-  index_prefix : (current : Option Partition) → GoOnFrom w.closed current ps → IsPrefix (early_index (all_numbered (placed static w.closed))) (partition_file (all_numbered (placed static ps)))
+  index_prefix : (current : Option Partition) → GoOnFrom w.closed current ps → IsBeginning (early_index (all_numbered (placed static w.closed))) (partition_file (all_numbered (placed static ps)))
   index_prefix None (rest, is) = index_by w.closed rest is
   index_prefix (Some p) (q, rest, is, c) = index_by w.closed (q ∷ rest) is
 

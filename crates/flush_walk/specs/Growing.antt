@@ -4,7 +4,7 @@ use Rattle.std.specs.FinMap as map
 use Rattle.outside.specs.Files.{Files, bytes_of}
 use Rattle.outside.specs.Told.{WhereTold}
 use Rattle.outside.specs.declared.store.FileId.{FileId}
-use Rattle.page_packer.specs.Early.{IsPrefix}
+use Rattle.page_packer.specs.Early.{IsBeginning}
 use Rattle.partition_index.specs.File.{early_index, partition_file}
 use Rattle.partition_index.specs.Writing.{Indexing, WritesIndex, no_partitions}
 use Rattle.row_index.specs.File.{row_file}
@@ -80,9 +80,9 @@ pub record Grows (s : GrowingFiles) (t : Growing) (now : Option Files) : Type 0 
 
 -- each file has a prefix of what it was to have, and Schema.txt nothing
 pub record AreCut (part whole : FourFiles) : Type 0 where
-  pub listing : IsPrefix part.listing whole.listing
-  pub rows : IsPrefix part.rows whole.rows
-  pub partitions : IsPrefix part.partitions whole.partitions
+  pub listing : IsBeginning part.listing whole.listing
+  pub rows : IsBeginning part.rows whole.rows
+  pub partitions : IsBeginning part.partitions whole.partitions
   pub schema : part.schema ≡ []
 
 abbrev pub CutOff : Growing → FourFiles → Option Files → Type 0

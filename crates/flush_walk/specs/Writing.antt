@@ -8,7 +8,7 @@ use Rattle.key_types.specs.Table.{Table}
 use Rattle.key_types.specs.declared.schema.ValueType.{ValueType}
 use Rattle.data_file.specs.Listing.{Partition, Row, data_bytes}
 use Rattle.data_file.specs.declared.writer.Counts.{Counts}
-use Rattle.page_packer.specs.Early.{IsPrefix}
+use Rattle.page_packer.specs.Early.{IsBeginning}
 use Rattle.row_index.specs.Entries.{Block}
 use Rattle.table_files.specs.Blocks.{blocks_of}
 use Rattle.table_files.specs.IndexMeaning.{IndexFilesStand}
@@ -91,10 +91,10 @@ GoOnFrom closed (Some p) ps =
 
 -- Each file has a prefix of what it was to have, and Schema.txt something only where the others are whole.
 pub record AreBegun (part whole : FourFiles) : Type 0 where
-  pub listing : IsPrefix part.listing whole.listing
-  pub rows : IsPrefix part.rows whole.rows
-  pub partitions : IsPrefix part.partitions whole.partitions
-  pub schema : IsPrefix part.schema whole.schema
+  pub listing : IsBeginning part.listing whole.listing
+  pub rows : IsBeginning part.rows whole.rows
+  pub partitions : IsBeginning part.partitions whole.partitions
+  pub schema : IsBeginning part.schema whole.schema
   pub last : part.schema ≢ [] → (part.listing ≡ whole.listing) × (part.rows ≡ whole.rows) × (part.partitions ≡ whole.partitions)
 
 -- after an error, in place of none of the generation's files: a part of the files of these partitions stands
