@@ -9,3 +9,6 @@ mod growing;
 mod writer;
 
 pub use writer::TableWriter;
+
+#[cfg(test)]
+mod tests;
