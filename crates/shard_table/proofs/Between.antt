@@ -1,5 +1,5 @@
 -- Strings between bounds that ascend.
-use Rattle.std.proofs.Common.{◌≡◌, ◌≢◌, ℕ, zero, suc, ◌+◌, ◌-◌, ◌<◌, ◌≤◌, Bool, true, false, cond, List, [], ◌∷◌, length, count_by, slice_get, slice_index_or, Some, refl, sym, ap, ◌∙◌, subst, arith}
+use Rattle.std.proofs.Common.{◌≡◌, ℕ, zero, suc, ◌+◌, ◌-◌, ◌<◌, Bool, true, false, cond, List, [], ◌∷◌, length, count_by, slice_get, Some, refl, sym, ap, ◌∙◌, subst, arith}
 use Rattle.std.specs.declared.cmp.Ordering.{Ordering}
 use Rattle.std.specs.declared.cmp.Ordering.TheVariants.{Less, Equal, Greater}
 use Rattle.std.specs.Ordering.{is_le, ordering_reverse}
@@ -7,9 +7,8 @@ use Rattle.std.specs.FinMap as map_of
 use Rattle.std.proofs.lemmas.List.Sums.{sum_by-cons}
 use Rattle.std.specs.Cmp.Lexicographic.{nat_list_cmp_total}
 use Rattle.key_types.specs.Table.{string_cmp}
-use Rattle.trie_image.specs.declared.Put.{Put}
 use Rattle.trie_rule.specs.Seats.{KeptWords}
-use Rattle.shard_table.specs.Shards.{is_reached, shard_index, bound_at, AboveLast, BoundsAscend, LiesIn, KeysLie, ShardsAscend, LawShardOf}
+use Rattle.shard_table.specs.Shards.{is_reached, shard_index, bound_at, BoundsAscend, LiesIn, KeysLie, ShardsAscend, LawShardOf}
 
 same : (x y : List ℕ) → string_cmp x y ≡ Equal → x ≡ y
 same x y e = map_of.slice_cmp-IsAntisymmetric map_of.nat_cmp-IsAntisymmetric x y e

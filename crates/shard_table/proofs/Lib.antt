@@ -1,3 +1,4 @@
 pub mod Each
 pub mod Between
 pub mod Made
+pub mod Seated

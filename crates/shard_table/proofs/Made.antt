@@ -1,5 +1,5 @@
 -- Workers of shards that were just made are free.
-use Rattle.std.proofs.Common.{◌≡◌, ℕ, ◌<◌, List, [], ◌∷◌, length, slice_index_or, ap}
+use Rattle.std.proofs.Common.{List, [], ◌∷◌, slice_index_or, ap}
 use Rattle.std.specs.List.{All}
 use Rattle.trie_machine.specs.declared.Reader.{Reader}
 use Rattle.trie_rule.specs.declared.views.WriteView.{WriteView}

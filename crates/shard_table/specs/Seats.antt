@@ -1,5 +1,5 @@
 -- What contracts see of a table, its workers and the shards at the end. This project's own.
-use Rattle.std.specs.Prelude.{◌≡◌, ℕ, List, [], ◌∷◌, None}
+use Rattle.std.specs.Prelude.{◌≡◌, ℕ, List, [], ◌∷◌, slice_get, Some, None}
 use Rattle.std.specs.List.{All}
 use Rattle.trie_machine.specs.Events.{resting}
 use Rattle.trie_rule.specs.Rule.{opening_write_view}
@@ -31,6 +31,11 @@ pub record IsFreeReader (c : CellsAt) (s : ReaderAt) : Type 0 where
 pub record AreWorkers (shards : List CellsAt) (w : Workers) : Type 0 where
   pub writing : AreEach IsFreeWriter shards w.writers.items
   pub reading : All (λ seats. AreEach IsFreeReader shards seats.items) w.readers.items
+
+-- this holds of the seat of reader q at shard i
+abbrev pub OfSeat : (ReaderAt → Type 0) → Workers → ℕ → ℕ → Type 0
+OfSeat P w q i = (seats : _) (seat : ReaderAt) → slice_get w.readers.items q ≡ Some seats → slice_get seats.items i ≡ Some seat
+    → P seat
 
 -- the write seat of cells without puts, and a read seat that has seen none
 pub record IsNewWriter (c : CellsAt) (s : WriterAt) : Type 0 where

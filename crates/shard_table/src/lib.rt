@@ -7,6 +7,7 @@ ghost use Rattle.shard_table.specs.Shards.{LawShardOf};
 mod bounds;
 mod frozen;
 mod table;
+mod values;
 mod workers;
 
 pub use bounds::KeyList;

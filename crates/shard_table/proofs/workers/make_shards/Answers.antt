@@ -1,4 +1,4 @@
-use Rattle.std.proofs.Common.{◌≡◌, ◌+◌, ◌∷◌, ◌++◌, [], List, sym, ap, ◌∙◌, subst, arith}
+use Rattle.std.proofs.Common.{◌≡◌, ◌∷◌, ◌++◌, [], sym, ap, ◌∙◌, subst, arith}
 use Rattle.trie_rule.specs.Seats.{CellsAt}
 use Rattle.trie_rule.specs.Rule.{opening_write_view}
 use Rattle.shard_table.specs.Seats.{HaveCells, IsNewWriter}

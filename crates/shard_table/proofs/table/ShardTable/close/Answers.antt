@@ -1,7 +1,6 @@
-use Rattle.std.proofs.Common.{◌≡◌, ℕ, ◌+◌, List, length, sym, ap, ◌∙◌, subst, arith}
-use Rattle.trie_rule.specs.Seats.{CellsAt, WriterAt, KeptWords}
+use Rattle.std.proofs.Common.{◌≡◌, ◌+◌, length, subst, arith}
 use Rattle.shard_table.specs.Shards.{BoundsAscend}
-use Rattle.shard_table.specs.Seats.{TableAt, AreEach, IsFreeWriter, IsClosed}
+use Rattle.shard_table.specs.Seats.{TableAt, IsFreeWriter, IsClosed}
 use Rattle.shard_table.proofs.Each.{each_length}
 use Rattle.shard_table.proofs.Between.{shards_ascend}
 use Rattle.shard_table.proofs.table.ShardTable.close.Goals as goal
