@@ -1,8 +1,7 @@
 -- Footers, and files that have none.
-use Rattle.std.proofs.Common.{◌≡◌, ◌∙◌, ◌⊎◌, ℕ, suc, zero, ◌+◌, ◌-◌, ◌<◌, ◌≤◌, List, [], ◌∷◌, ◌++◌, length, inl, inr, ap, arith, refl, subst, sym, append_assoc}
-use Rattle.std.proofs.lemmas.List.{append-nil, append_cancel_left, append_cancel_right, length-append}
+use Rattle.std.proofs.Common.{◌≡◌, ◌∙◌, ◌⊎◌, ℕ, ◌+◌, ◌-◌, ◌<◌, ◌≤◌, List, [], ◌∷◌, ◌++◌, length, inl, inr, ap, arith, refl, subst, sym, append_assoc}
+use Rattle.std.proofs.lemmas.List.{append-nil, length-append}
 use Rattle.key_types.specs.Columns.{Columns}
-use Rattle.key_decode.specs.Strings.{IsStringOf}
 use Rattle.key_decode.proofs.Known.{string_length}
 use Rattle.length_prefix.specs.Counted.{counted, IsCutOff}
 use Rattle.length_prefix.proofs.Counts.{counted-same, not_cut_off}

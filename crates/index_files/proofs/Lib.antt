@@ -1,2 +1,4 @@
 pub mod Entries
 pub mod Footers
+pub mod Spans
+pub mod Told

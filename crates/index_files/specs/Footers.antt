@@ -1,5 +1,5 @@
 -- The footer of a partition index. This project's own.
-use Rattle.std.specs.Prelude.{◌≡◌, ◌⊎◌, ℕ, ◌<◌, ◌≤◌, List, [], ◌++◌, length, drop}
+use Rattle.std.specs.Prelude.{◌≡◌, ◌⊎◌, ℕ, ◌<◌, List, [], ◌++◌, length, drop}
 use Rattle.byteorder.specs.Endian.{big_number}
 use Rattle.key_types.specs.Columns.{Columns}
 use Rattle.key_decode.specs.Strings.{IsStringOf}

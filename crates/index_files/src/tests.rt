@@ -1,6 +1,10 @@
 //! The index files of worked rows.
 use super::*;
+use bti_nodes::{Cause, Damage};
+use data_file::DataError;
 use key_types::{ColType, Schema, TypeList, ValueType};
+use outside::{FileId, MemStore, Part};
+use page_cache::PageCache;
 use std::alloc::{AllocError, Global};
 use std::test::{Fail as TestFail, *};
 
@@ -75,5 +79,49 @@ fn entries(rt: HostRuntime) -> Result<(), TestFail> {
     assert_eq!(rt; found, None);
     let found = entry_in(&schema, &FORTY_ROWS[..27], 20).map(|entry| entry.numbers);
     assert_eq!(rt; found, None);
+    Ok(())
+}
+
+/// A file of the first generation.
+fn file_of(part: Part) -> FileId {
+    FileId {
+        generation: 1,
+        part,
+    }
+}
+
+/// Damage in a file.
+fn damaged(part: Part, position: u64, cause: Cause) -> DataError {
+    DataError::Damaged(Damage {
+        part,
+        position,
+        cause,
+    })
+}
+
+#[test]
+fn reads(rt: HostRuntime) -> Result<(), TestFail> {
+    let alloc = rt.alloc();
+    let schema = int_schema(alloc)?;
+    let mut store = MemStore::new(alloc, Vec::new(alloc));
+    let partitions = file_of(Part::Partitions);
+    let rows = file_of(Part::Rows);
+    let mut bytes = Vec::new(alloc);
+    bytes.extend_from_slice(&ONE_PUT)?;
+    assert_eq!(rt; store.put_file(partitions, bytes), Ok(()));
+    let mut cache = PageCache::new(alloc)?;
+    let footer = read_footer(alloc, &schema, &mut cache, &mut store, partitions);
+    let numbers = FooterNumbers {
+        strings: 4,
+        partitions: 1,
+        root: 2,
+    };
+    assert_eq!(rt; footer, Ok(numbers));
+    let footer = read_footer(alloc, &schema, &mut cache, &mut store, rows);
+    assert_eq!(rt; footer, Err(damaged(Part::Rows, 0, Cause::BadFooter)));
+    let entry = read_entry(alloc, &schema, &mut cache, &mut store, rows, 20);
+    assert_eq!(rt; entry, Err(damaged(Part::Rows, 20, Cause::BadEntry)));
+    assert_eq!(rt; partition_place(-1), PartitionPlace::Head(0));
+    assert_eq!(rt; partition_place(20), PartitionPlace::Entry(20));
     Ok(())
 }
