@@ -1,0 +1,15 @@
+use Rattle.std.proofs.Common.{◌≡◌, ◌+◌, ◌++◌, ℕ, List, Option, Result, length}
+use Rattle.key_types.specs.Columns.{columns_of}
+use Rattle.bti_nodes.specs.declared.damage.Damage.{Damage}
+use Rattle.table_reader.specs.Rows.{FindsRow}
+use Rattle.table_reader.proofs.block.find_row.Given as goal
+
+abbrev pub invariant-rows : goal.invariant-rows
+invariant-rows l = record {
+  whole : l.place + length l.rest ≡ l.at + length l.bytes;
+  behind : (more : List ℕ) (found : Result (Option (List ℕ)) Damage) → FindsRow (columns_of l.schema) l.key l.limit l.place (l.rest ++ more) found
+      → FindsRow (columns_of l.schema) l.key l.limit l.at (l.bytes ++ more) found;
+}
+
+abbrev pub decreases-rows : goal.decreases-rows
+decreases-rows l = length l.rest

@@ -1,0 +1,14 @@
+//! Opening a table that was written, and reading it. The commands that answer from files stand on these calls, which
+//! read the files of one generation through a cache of pages. Nothing here writes.
+#![tactic(auto)]
+
+mod block;
+mod fault;
+mod table;
+
+pub use block::{Stop, find_row};
+pub use fault::TableFault;
+pub use table::OpenTable;
+
+#[cfg(test)]
+mod tests;
