@@ -28,7 +28,8 @@ HasFooter columns file numbers = (first : List ℕ) × (last : List ℕ) × IsFo
 -- What a table holds is that of the files of its generation: the schema, the footer where it is loaded, and the pages.
 pub record TableStands (files : Files) (table : Opened) : Type 0 where
   pub schema : IsSchemaFile (columns_of table.schema) (bytes_of files (schema_id table.generation))
-  pub footer : IfSome table.footer (HasFooter (columns_of table.schema) (bytes_of files (partitions_id table.generation)))
+  pub footer :
+      IfSome table.footer (HasFooter (columns_of table.schema) (bytes_of files (partitions_id table.generation)))
   pub pages : AreOf files table.pages
 
 -- the same, where the store tells the files

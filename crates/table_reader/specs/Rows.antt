@@ -38,13 +38,14 @@ pub record BeginsLast (columns : Columns) (key : List ℕ) (limit at : ℕ) (byt
 -- a row above it, the end of the partition or the block's last row stands there; or nothing sound.
 abbrev pub Meets : Columns → List ℕ → ℕ → ℕ → List ℕ → Result (Option (List ℕ)) Damage → Type 0
 Meets columns key limit at bytes (Ok (Some value)) = BeginsRow columns bytes key value
-Meets columns key limit at bytes (Ok None) = BeginsAbove columns key bytes ⊎ BeginsEnd bytes ⊎ BeginsLast columns key limit at bytes
+Meets columns key limit at bytes (Ok None) =
+    BeginsAbove columns key bytes ⊎ BeginsEnd bytes ⊎ BeginsLast columns key limit at bytes
 Meets columns key limit at bytes (Err damage) = (damage ≡ damage_at at BadRow) × NoRow columns bytes
 
 -- The bytes that stand at a place of a block, which ends with the first row that ends at the limit or behind it, hold
 -- this value of the key, or none, or are damaged there.
-pub record FindsRow (columns : Columns) (key : List ℕ) (limit at : ℕ) (bytes : List ℕ) (found : Result (Option (List ℕ)) Damage)
-    : Type 0 where
+pub record FindsRow (columns : Columns) (key : List ℕ) (limit at : ℕ) (bytes : List ℕ)
+    (found : Result (Option (List ℕ)) Damage) : Type 0 where
   pub rows : List Row
   pub passed : ArePassed columns key limit at rows
   pub rest : List ℕ

@@ -1,5 +1,6 @@
-//! An open table: its schema, its footer, and pages of its files. `open` reads the schema alone, and `load_footer` comes
-//! before the first lookup. What a table holds is that of the files of its generation as long as nobody changes them.
+//! An open table: its schema, its footer, and pages of its files. `open` reads the schema alone, and `load_footer`
+//! comes before the first lookup. What a table holds is that of the files of its generation as long as nobody changes
+//! them.
 ghost use Rattle.std.specs.Prelude.{◌≡◌, ◌≤◌, ◌+◌, [], Err, IfOk, IfSome, None, OnErr};
 ghost use Rattle.outside.specs.Causes.{Rose};
 ghost use Rattle.outside.specs.Files.{bytes_of};
@@ -80,8 +81,8 @@ impl OpenTable {
     /// table has the footer that it had.
     pub fn load_footer<K: Store>(&mut self, store: &mut K) -> Result<(), TableFault>
         requires stands { StandsIn (K.files store.old) self.old }
-        ensures footer { IfSome (K.files store.old) (λ m.
-            LoadsFooter (columns_of self.old.schema) (bytes_of m (partitions_id self.old.generation)) self.new.footer result) }
+        ensures footer { IfSome (K.files store.old) (λ m. LoadsFooter (columns_of self.old.schema)
+            (bytes_of m (partitions_id self.old.generation)) self.new.footer result) }
         ensures stands { StandsIn (K.files store.new) self.new }
         ensures same { self.new ≡ record self.old { footer = self.new.footer; pages = self.new.pages } }
         ensures kept { OnErr result (self.new.footer ≡ self.old.footer) }
