@@ -1,5 +1,5 @@
 -- One entry more: where it goes, and what becomes of the files.
-use Rattle.std.proofs.Common.{◌≡◌, ◌≢◌, ◌⊎◌, ℕ, ◌+◌, ◌^◌, ◌<◌, ◌≤◌, Bool, true, false, List, [], ◌∷◌, ◌++◌, length, Option, Some, None, Result, Ok, Err, IsErr, inl, inr, arith, refl, sym, ◌∙◌, ap, subst}
+use Rattle.std.proofs.Common.{◌≡◌, ◌≢◌, ◌⊎◌, ℕ, ◌^◌, ◌<◌, ◌≤◌, Bool, true, false, List, [], ◌∷◌, ◌++◌, length, Option, Some, None, Result, Ok, Err, IsErr, inl, inr, arith, refl, sym, ◌∙◌, ap, subst}
 use Rattle.std.specs.Prelude.{◌&&◌, if◌then◌else◌, nat_eq}
 use Rattle.std.specs.Cmp.Lexicographic.{pointwise, same_text, other_text, nat_list_eq_equiv}
 use Rattle.std.specs.declared.cmp.Ordering.TheVariants.{Less}
@@ -14,7 +14,7 @@ use Rattle.table_files.specs.Standing.{AreOfTable, StringsAscend}
 use Rattle.table_files.proofs.Numbering.{keys}
 use Rattle.table_files.proofs.Strings.{never_itself}
 use Rattle.flush_walk.specs.declared.writer.TableWriter.{TableWriter}
-use Rattle.flush_walk.specs.Given.{Flushing, Given, IsAboveLast, IsBehindKey, TakesEntry, begun_with, growing_of, last_clustering, listed, opened, partitions_given, turned, with_entry, with_entry_in, with_row}
+use Rattle.flush_walk.specs.Given.{Flushing, Given, IsAboveLast, IsBehindKey, TakesEntry, begun_with, growing_of, last_clustering, listed, opened, turned, with_entry, with_entry_in, with_row}
 use Rattle.flush_walk.specs.Growing.{Torn}
 use Rattle.flush_walk.specs.Writing.{AddsEntryTo, Goes, IsCurrent, LeavesBegun, WritesTable}
 use Rattle.flush_walk.proofs.Ends.{with_current}
@@ -67,7 +67,7 @@ pub record Gone (s : TableWriter) (w : Flushing) (e : Given) (f : Option Files) 
   pub next : with_entry w e ≡ opened w (with_row p e.clustering e.value)
   pub some : 0 < length e.clustering
 
-same_above : (key partition : List ℕ) (last clustering : List ℕ) → key ≡ partition
+pub same_above : (key partition : List ℕ) (last clustering : List ℕ) → key ≡ partition
     → ((string_cmp key partition ≡ Less) ⊎ ((key ≡ partition) × (string_cmp last clustering ≡ Less))) → string_cmp last clustering ≡ Less
 same_above key partition last clustering is (inl low) = absurd (never_itself partition (subst (λ (k : List ℕ). string_cmp k partition ≡ Less) is low))
 same_above key partition last clustering is (inr above) = above.1
@@ -98,13 +98,13 @@ pub record Begins (w : Flushing) (e : Given) : Type 0 where
   pub table : AreOfTable w.columns ((turned w).closed ++ begun_with e ∷ [])
   pub next : with_entry w e ≡ opened (turned w) (begun_with e)
 
-other_above : (key partition : List ℕ) (last clustering : List ℕ) → key ≢ partition
+pub other_above : (key partition : List ℕ) (last clustering : List ℕ) → key ≢ partition
     → ((string_cmp key partition ≡ Less) ⊎ ((key ≡ partition) × (string_cmp last clustering ≡ Less))) → string_cmp key partition ≡ Less
 other_above key partition last clustering apart (inl low) = low
 other_above key partition last clustering apart (inr above) = absurd (apart above.0)
 
 -- the first of all keys
-first_ascends : (closed : List Partition) (current : Option Partition) (p : Partition) → closed ≡ [] → current ≡ None → StringsAscend (keys ((closed ++ listed current) ++ p ∷ []))
+pub first_ascends : (closed : List Partition) (current : Option Partition) (p : Partition) → closed ≡ [] → current ≡ None → StringsAscend (keys ((closed ++ listed current) ++ p ∷ []))
 first_ascends [] None p is none = tt
 first_ascends [] (Some q) p is none = cc
 first_ascends (x ∷ closed) current p is none = cc

@@ -1,34 +1,33 @@
 -- What the writer of a table was given when a partition ends.
-use Rattle.std.proofs.Common.{◌≡◌, ◌≢◌, ℕ, ◌+◌, ◌-◌, ◌*◌, ◌^◌, ◌<◌, ◌≤◌, Bool, true, false, List, [], ◌∷◌, ◌++◌, length, Option, Some, None, Result, Ok, Err, IsErr, arith, refl, sym, ◌∙◌, ap, subst}
-use Rattle.std.specs.Prelude.{ℤ, pos, negsuc, ◌≤ℤ◌, ◌<ℤ◌}
-use Rattle.std.proofs.lemmas.List.{append_assoc, append-nil, length-append}
+use Rattle.std.proofs.Common.{◌≡◌, ℕ, ◌^◌, ◌<◌, ◌≤◌, Bool, true, false, List, [], ◌∷◌, ◌++◌, length, Option, Some, None, arith, refl, sym, ◌∙◌, ap, subst}
+use Rattle.std.specs.Prelude.{pos, negsuc}
+use Rattle.std.proofs.lemmas.List.{append-nil, length-append}
 use Rattle.outside.specs.Files.{Files}
 use Rattle.key_types.specs.declared.schema.ValueType.{ValueType}
 use Rattle.key_decode.proofs.Known.{string_length}
 use Rattle.data_file.specs.Listing.{Partition, data_bytes, end_bytes}
-use Rattle.partition_index.specs.Entries.{AreNumbered, IsNumbered, Numbered, StandApart, string_bytes}
+use Rattle.partition_index.specs.Entries.{AreNumbered, IsNumbered, Numbered, StandApart}
 use Rattle.partition_index.specs.Writing.{HasRoom, Indexing, IsPartitionBehind, TakesPartition, WritesIndex, numbered, with_partition}
 use Rattle.partition_index.specs.declared.writer.PartitionWriter.{PartitionWriter}
 use Rattle.row_index.specs.Entries.{Block, BlockList}
-use Rattle.row_index.specs.File.{row_entry_at, row_file}
+use Rattle.row_index.specs.File.{row_file}
 use Rattle.row_index.specs.Writing.{RowIndexing, begun_entry_at, with_finished}
 use Rattle.table_files.specs.Blocks.{blocks_of}
 use Rattle.table_files.specs.Indexes.{all_indexed, all_numbered, number_at, placed, placed_at, row_indexed}
 use Rattle.table_files.specs.Standing.{AreOfTable}
 use Rattle.table_files.proofs.Numbering.{are_numbered}
-use Rattle.flush_walk.specs.declared.current.CurrentPartition.{CurrentPartition}
 use Rattle.flush_walk.specs.declared.growing.GrowingFiles.{GrowingFiles}
 use Rattle.flush_walk.specs.declared.writer.TableWriter.{TableWriter}
 use Rattle.flush_walk.specs.Current.{number_turned, rows_turned}
-use Rattle.flush_walk.specs.Given.{Flushing, current_bytes, growing_of, listed, opened, opened_bytes, partitions_given, turned}
+use Rattle.flush_walk.specs.Given.{Flushing, growing_of, listed, opened, opened_bytes, turned}
 use Rattle.flush_walk.specs.Growing.{Growing, Grows, Torn, with_bytes}
-use Rattle.flush_walk.specs.Writing.{AreCounts, Goes, IsCurrent, IsHeld, WritesTable, has_blocks, rows_in_all}
+use Rattle.flush_walk.specs.Writing.{AreCounts, IsCurrent, IsHeld, WritesTable, has_blocks}
 use Rattle.page_packer.specs.Early.{IsBeginning}
 use Rattle.partition_index.specs.File.{early_index, index_bytes_for}
 use Rattle.partition_index.proofs.Settled.{early_index_grows}
 use Rattle.flush_walk.proofs.Moves.{all_prefix, cut_on}
 use Rattle.flush_walk.proofs.Lists.{are_parted, string_bytes_parted}
-use Rattle.flush_walk.proofs.Steps.{place_few, rows_all_parted}
+use Rattle.flush_walk.proofs.Steps.{place_few}
 use Rattle.flush_walk.proofs.Turns.{indexed_closed, listing_closed, numbered_closed}
 
 -- ---- the last of the partitions with numbers

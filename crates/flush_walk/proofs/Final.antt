@@ -1,7 +1,7 @@
 -- The four files of a table, when its writer has ended.
-use Rattle.std.proofs.Common.{◌≡◌, ◌≢◌, ◌⊎◌, ℕ, ◌+◌, ◌<◌, ◌≤◌, ◌^◌, Bool, true, false, cond, List, [], ◌∷◌, ◌++◌, length, Option, Some, None, Result, Ok, Err, IsErr, IfSome, IfOk, OnOk, OnErr, inl, inr, unwrap_or, arith, refl, sym, ◌∙◌, ap, subst}
+use Rattle.std.proofs.Common.{◌≡◌, ◌≢◌, ◌⊎◌, ℕ, ◌<◌, ◌≤◌, List, [], ◌++◌, Option, Some, None, Result, Ok, Err, IsErr, IfSome, inl, inr, unwrap_or, arith, refl, sym, ◌∙◌, ap, subst}
 use Rattle.std.proofs.lemmas.Bool.{cases_lt}
-use Rattle.std.proofs.lemmas.List.{append_assoc, append-nil}
+use Rattle.std.proofs.lemmas.List.{append-nil}
 use Rattle.std.specs.FinMap as map
 use Rattle.outside.specs.Files.{Appends, Files, bytes_of, file_cmp_total}
 use Rattle.outside.specs.Told.{WhereTold}
@@ -9,23 +9,22 @@ use Rattle.outside.specs.declared.store.FileId.{FileId}
 use Rattle.outside.specs.declared.store.Part.{Part}
 use Rattle.outside.specs.declared.store.Part.TheVariants.{Data, Partitions, Rows, Schema}
 use Rattle.outside.proofs.Sets.{get-same}
-use Rattle.key_types.specs.Table.{Table}
 use Rattle.data_file.specs.Listing.{Partition, data_bytes}
 use Rattle.data_file.specs.declared.writer.Counts.{Counts}
 use Rattle.page_packer.specs.Early.{IsBeginning}
 use Rattle.table_files.specs.IndexMeaning.{IndexFilesStand}
-use Rattle.table_files.specs.Indexes.{partitions_file, placed, rows_file}
+use Rattle.table_files.specs.Indexes.{partitions_file, placed}
 use Rattle.table_files.specs.Names.{data_id, partitions_id, rows_id, schema_id}
-use Rattle.table_files.specs.SchemaFile.{HaveSchemaFile, schema_file_text}
-use Rattle.table_files.specs.Standing.{AreOfTable, StandFor, entries_in}
+use Rattle.table_files.specs.SchemaFile.{schema_file_text}
+use Rattle.table_files.specs.Standing.{AreOfTable}
 use Rattle.table_files.proofs.Indexed.{indexes_stand}
 use Rattle.flush_walk.specs.declared.writer.TableWriter.{TableWriter}
-use Rattle.flush_walk.specs.Given.{Flushing, growing_of, listed, partitions_given, turned}
+use Rattle.flush_walk.specs.Given.{Flushing, growing_of, partitions_given, turned}
 use Rattle.flush_walk.specs.Growing.{AreCut, AreThree, CutOff, Ends, FourFiles, Growing, HaveBytes, Torn, ended}
 use Rattle.flush_walk.specs.Writing.{AddsFour, AreBegun, AreCounts, BeginsFiles, FinishesTable, IndexGiven, StandForGiven, WritesTable, files_of_table}
 use Rattle.flush_walk.proofs.Moves.{all_prefix}
 use Rattle.flush_walk.proofs.Prefixes.{torn_begun}
-use Rattle.flush_walk.proofs.Stores.{GrewFront, GrowsFront, appends_front, get-other, grown_other, parts_apart, same_file, schema_grown, told_so, told_then}
+use Rattle.flush_walk.proofs.Stores.{GrowsFront, appends_front, get-other, parts_apart, same_file, schema_grown, told_so, told_then}
 
 -- ---- four files set in the files
 
@@ -98,10 +97,32 @@ module _ (g : ℕ) (four : FourFiles) (old new : Files) (h : AreFour g four old 
   adds_four : AddsFour g four old new
   adds_four = map.same_map file_cmp_total same_file new (set4 g four old) get_all
 
--- ---- one table
-
 get_bytes : (m : Files) (file : FileId) (bytes : List ℕ) → map.get m file ≡ Some bytes → bytes_of m file ≡ bytes
 get_bytes m file bytes is = ap (λ (o : Option (List ℕ)). unwrap_or o []) is
+
+-- they have these bytes
+pub added_have : (g : ℕ) (four : FourFiles) (old new : Files) → AddsFour g four old new → HaveBytes g four old new
+added_have g four old new is =
+    subst (λ (m : Files). HaveBytes g four old m) (sym is)
+    (record {
+      listing = get_bytes (set4 g four old) (data_id g) four.listing (get_listing g four old);
+      rows = get_bytes (set4 g four old) (rows_id g) four.rows (get_rows g four old);
+      partitions = get_bytes (set4 g four old) (partitions_id g) four.partitions (get_partitions g four old);
+      schema = get_bytes (set4 g four old) (schema_id g) four.schema (get-same (set3 g four old) (schema_id g) four.schema);
+      others = get_others g four old;
+    })
+
+-- all of them is a part
+pub all_begun : (four : FourFiles) → AreBegun four four
+all_begun four = record {
+  listing = all_prefix four.listing;
+  rows = all_prefix four.rows;
+  partitions = all_prefix four.partitions;
+  schema = all_prefix four.schema;
+  last = λ some. (refl, refl, refl);
+}
+
+-- ---- one table
 
 module _ (w : Flushing) (table : AreOfTable w.columns (partitions_given w)) where
   abbrev t : Growing
@@ -182,6 +203,13 @@ module _ (w : Flushing) (table : AreOfTable w.columns (partitions_given w)) wher
   pub adds : (f1 : Option Files) → WhereTold w.before f1 (AreFour w.generation (files_of_table w.columns all)) → WhereTold w.before f1 (AddsFour w.generation (files_of_table w.columns all))
   adds f1 four = told_so w.before f1 _ _ (λ old new p. adds_four w.generation (files_of_table w.columns all) old new p) four
 
+  indexes : (old new : Files) → AreFour w.generation (files_of_table w.columns all) old new → IndexGiven w new
+  indexes old new k =
+      let given = placed w.columns.static_value all in
+      subst (λ (bs : List ℕ). IndexFilesStand bs (bytes_of new (rows_id w.generation)) given) (sym (get_bytes new (partitions_id w.generation) _ k.partitions))
+      (subst (λ (bs : List ℕ). IndexFilesStand (partitions_file w.columns.static_value all) bs given) (sym (get_bytes new (rows_id w.generation) _ k.rows))
+      (indexes_stand w.columns all table))
+
   stands_for : (old new : Files) → AreFour w.generation (files_of_table w.columns all) old new → StandForGiven w new
   stands_for old new k have map' same = record {
     held = record {
@@ -191,15 +219,9 @@ module _ (w : Flushing) (table : AreOfTable w.columns (partitions_given w)) wher
       rows = table.rows;
       same = sym same;
     };
+    indexes = indexes old new k;
     schema = (have, get_bytes new (schema_id w.generation) text k.schema);
   }
-
-  indexes : (old new : Files) → AreFour w.generation (files_of_table w.columns all) old new → IndexGiven w new
-  indexes old new k =
-      let given = placed w.columns.static_value all in
-      subst (λ (bs : List ℕ). IndexFilesStand bs (bytes_of new (rows_id w.generation)) given) (sym (get_bytes new (partitions_id w.generation) _ k.partitions))
-      (subst (λ (bs : List ℕ). IndexFilesStand (partitions_file w.columns.static_value all) bs given) (sym (get_bytes new (rows_id w.generation) _ k.rows))
-      (indexes_stand w.columns all table))
 
   told_end : (f0 f1 : Option Files) (Q : Files → Files → Type 0) (S : Files → Type 0) → ((x y : Files) → Q x y → S y) → WhereTold f0 f1 Q → IfSome f1 S
   told_end None None Q S step q = tt

@@ -1,24 +1,24 @@
 -- The end of a table: the three files are there, and then Schema.txt.
-use Rattle.std.proofs.Common.{◌≡◌, ◌≢◌, ◌⊎◌, ℕ, ◌+◌, ◌<◌, ◌^◌, Bool, true, false, cond, List, [], ◌∷◌, ◌++◌, length, Option, Some, None, Result, Ok, Err, IsErr, IfSome, IfOk, OnOk, OnErr, inl, inr, unwrap_or, arith, refl, sym, ◌∙◌, ap, subst}
+use Rattle.std.proofs.Common.{◌≡◌, ℕ, List, [], ◌++◌, Option, Some, Result, Ok, Err, IsErr, inl, arith, refl, sym, ◌∙◌, ap, subst}
 use Rattle.std.proofs.lemmas.List.{append_assoc, append-nil}
 use Rattle.std.specs.FinMap as map
 use Rattle.outside.specs.Files.{Appends, Files, bytes_of}
 use Rattle.outside.specs.Told.{WhereTold}
 use Rattle.outside.specs.declared.store.FileId.{FileId}
-use Rattle.outside.proofs.Sets.{bytes_of-same, get-same}
+use Rattle.outside.proofs.Sets.{get-same}
 use Rattle.data_file.specs.Writing.{AppendsWhole, GrowsBy, PutsAllBut}
 use Rattle.page_packer.specs.Early.{IsBeginning}
 use Rattle.partition_index.specs.File.{early_index, last_index_bytes, partition_file}
 use Rattle.partition_index.proofs.Settled.{index_ends}
 use Rattle.row_index.specs.Entries.{Block}
 use Rattle.row_index.specs.File.{row_file}
-use Rattle.row_index.specs.Writing.{RowIndexing, early_rows}
+use Rattle.row_index.specs.Writing.{early_rows}
 use Rattle.row_index.proofs.Growing.{all_stand}
-use Rattle.table_files.specs.Names.{data_id, partitions_id, rows_id, schema_id}
+use Rattle.table_files.specs.Names.{data_id, partitions_id, rows_id}
 use Rattle.flush_walk.specs.declared.growing.GrowingFiles.{GrowingFiles}
 use Rattle.flush_walk.specs.Growing.{AreCut, AreThree, CutOff, Ends, FourFiles, Growing, Grows, HaveBytes, StandsNow, ended, standing}
 use Rattle.flush_walk.proofs.Moves.{all_prefix}
-use Rattle.flush_walk.proofs.Stores.{GrewFront, GrowsFront, appends_front, grown_other, listing_grown, partitions_grown, parts_apart, rows_grown, told_so, told_then}
+use Rattle.flush_walk.proofs.Stores.{GrewFront, GrowsFront, appends_front, grown_other, listing_grown, partitions_grown, parts_apart, rows_grown, told_then}
 
 -- ---- what was made
 

@@ -8,4 +8,5 @@ mod Ends
 mod Prefixes
 mod Adds
 mod Finish
-mod Final
+pub mod Final
+pub mod Onward

@@ -1,5 +1,5 @@
 -- Partitions and rows with more of them behind.
-use Rattle.std.proofs.Common.{◌≡◌, ℕ, ◌+◌, List, [], ◌∷◌, ◌++◌, length, map, Option, Some, None, arith, refl, sym, ◌∙◌, ap, subst}
+use Rattle.std.proofs.Common.{◌≡◌, ℕ, ◌+◌, List, [], ◌∷◌, ◌++◌, length, Option, arith, refl, sym, ◌∙◌, ap}
 use Rattle.std.proofs.lemmas.List.{append_assoc, append-nil, length-append}
 use Rattle.std.specs.declared.cmp.Ordering.TheVariants.{Less}
 use Rattle.key_types.specs.Columns.{Columns}
@@ -7,7 +7,7 @@ use Rattle.key_types.specs.Table.{Entry, string_cmp}
 use Rattle.key_types.specs.declared.schema.ValueType.{ValueType}
 use Rattle.data_file.specs.Listing.{ArePartitions, AreRows, IsRow, Partition, Row, data_bytes, partition_bytes, row_bytes, rows_bytes}
 use Rattle.row_index.specs.Entries.{Block, BlockList}
-use Rattle.row_index.specs.File.{block_list_bytes, rows_from}
+use Rattle.row_index.specs.File.{rows_from}
 use Rattle.partition_index.specs.Entries.{Numbered, string_bytes}
 use Rattle.partition_index.specs.Writing.{numbered}
 use Rattle.table_files.specs.Blocks.{block_begun, block_start, blocks_behind}

@@ -1,18 +1,15 @@
 -- With one entry more the partitions are still those of a table.
-use Rattle.std.proofs.Common.{◌≡◌, ◌≢◌, ◌⊎◌, ℕ, ◌+◌, ◌<◌, ◌≤◌, Bool, true, false, List, [], ◌∷◌, ◌++◌, length, map, Option, Some, None, inl, inr, arith, refl, sym, ◌∙◌, ap, subst}
-use Rattle.std.specs.Prelude.{if◌then◌else◌, nat_eq}
+use Rattle.std.proofs.Common.{◌≡◌, ◌≢◌, ℕ, ◌<◌, ◌≤◌, List, [], ◌∷◌, ◌++◌, length, Option, Some, None, arith, refl, sym, ◌∙◌, ap, subst}
 use Rattle.std.proofs.lemmas.List.{append_assoc, append-nil, length-append}
-use Rattle.std.specs.Cmp.Lexicographic.{pointwise, same_text, other_text}
 use Rattle.std.specs.declared.cmp.Ordering.TheVariants.{Less}
 use Rattle.key_types.specs.Columns.{Columns}
 use Rattle.key_types.specs.Table.{Entry, string_cmp}
 use Rattle.key_types.specs.declared.schema.ValueType.{ValueType}
-use Rattle.data_file.specs.Listing.{ArePartitions, AreRows, FitsStaticType, IsRow, Partition, Row}
-use Rattle.table_files.specs.Standing.{AreOfTable, RowsAscend, StringsAscend, entries_in, row_entries, static_entries}
+use Rattle.data_file.specs.Listing.{AreRows, FitsStaticType, IsRow, Partition, Row}
+use Rattle.table_files.specs.Standing.{AreOfTable, StringsAscend, entries_in, row_entries, static_entries}
 use Rattle.table_files.proofs.Blocked.{clusterings}
 use Rattle.table_files.proofs.Numbering.{keys}
-use Rattle.table_files.proofs.Strings.{never_itself}
-use Rattle.flush_walk.specs.Given.{Flushing, Given, IsAboveLast, IsBehindKey, TakesEntry, begun_with, last_clustering, listed, map_entry, partitions_given, rows_given, static_given, turned, with_entry, with_entry_in, with_row}
+use Rattle.flush_walk.specs.Given.{Flushing, Given, IsBehindKey, TakesEntry, begun_with, last_clustering, listed, map_entry, partitions_given, rows_given, static_given, with_row}
 use Rattle.flush_walk.proofs.Lists.{are_joined, are_parted, ascend_with, entries_parted_by, keys_more, keys_same, row_entries_more, rows_joined, rows_parted, rows_with}
 
 -- ---- a partition of one entry

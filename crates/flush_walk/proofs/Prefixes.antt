@@ -1,8 +1,7 @@
 -- What stands of a table's files is the beginning of what they are to have, whatever entries are to come.
-use Rattle.std.proofs.Common.{◌≡◌, ◌≢◌, ℕ, ◌+◌, List, [], ◌∷◌, ◌++◌, length, Option, Some, None, Result, Ok, Err, IsErr, arith, refl, sym, ◌∙◌, ap, subst}
-use Rattle.std.proofs.lemmas.List.{append_assoc, append-nil, length-append}
+use Rattle.std.proofs.Common.{◌≡◌, ℕ, ◌+◌, List, [], ◌∷◌, ◌++◌, length, Option, Some, None, refl, sym, ◌∙◌, ap, subst}
+use Rattle.std.proofs.lemmas.List.{append_assoc, append-nil}
 use Rattle.outside.specs.Files.{Files}
-use Rattle.key_types.specs.Columns.{Columns}
 use Rattle.key_types.specs.declared.schema.ValueType.{ValueType}
 use Rattle.data_file.specs.Listing.{Partition, Row, data_bytes, end_bytes, head_bytes, partition_bytes, rows_bytes, static_part_bytes}
 use Rattle.page_packer.specs.Early.{IsBeginning}
@@ -19,8 +18,8 @@ use Rattle.table_files.specs.Indexes.{all_indexed, all_numbered, numbered_from, 
 use Rattle.table_files.specs.SchemaFile.{schema_file_text}
 use Rattle.table_files.specs.Standing.{AreOfTable}
 use Rattle.table_files.proofs.Numbering.{are_lists, are_numbered}
-use Rattle.flush_walk.specs.Given.{Flushing, current_blocks, current_bytes, growing_of, listed, opened_bytes}
-use Rattle.flush_walk.specs.Growing.{AreCut, FourFiles, Growing, HaveBytes, Torn, standing}
+use Rattle.flush_walk.specs.Given.{Flushing, current_blocks, current_bytes, growing_of, opened_bytes}
+use Rattle.flush_walk.specs.Growing.{AreCut, FourFiles, Torn, standing}
 use Rattle.flush_walk.specs.Writing.{AreBegun, GoOnFrom, IsContinued, LeavesBegun, files_of_table}
 use Rattle.flush_walk.proofs.Lists.{data_parted, indexed_parted, numbered_parted, placed_parted, rows_bytes_more}
 use Rattle.flush_walk.proofs.Moves.{prefix_on}

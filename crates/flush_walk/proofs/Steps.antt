@@ -1,16 +1,15 @@
 -- What the writer of a table was given after each step.
-use Rattle.std.proofs.Common.{◌≡◌, ◌≢◌, ℕ, ◌+◌, ◌-◌, ◌*◌, ◌^◌, ◌<◌, ◌≤◌, Bool, true, false, List, [], ◌∷◌, ◌++◌, length, Option, Some, None, Result, Ok, Err, IsErr, arith, refl, sym, ◌∙◌, ap, subst}
+use Rattle.std.proofs.Common.{◌≡◌, ℕ, ◌+◌, ◌-◌, ◌^◌, ◌<◌, ◌≤◌, Bool, true, false, List, [], ◌∷◌, ◌++◌, length, Option, Some, None, Result, Ok, Err, IsErr, arith, refl, sym, ◌∙◌, ap, subst}
 use Rattle.std.specs.Prelude.{◌&&◌, if◌then◌else◌}
-use Rattle.std.proofs.lemmas.List.{append_assoc, append-nil, length-append}
-use Rattle.std.specs.List.{AllByRecursion}
+use Rattle.std.proofs.lemmas.List.{append-nil, length-append}
 use Rattle.std.specs.declared.cmp.Ordering.TheVariants.{Less}
 use Rattle.key_types.specs.Table.{string_cmp}
 use Rattle.key_types.specs.declared.schema.ValueType.{ValueType}
 use Rattle.outside.specs.Files.{Files}
 use Rattle.data_file.specs.Listing.{AreRows, Partition, Row, data_bytes, end_bytes, row_bytes, rows_bytes}
 use Rattle.data_file.specs.declared.writer.Counts.{Counts}
-use Rattle.row_index.specs.Entries.{AreBlocks, AreBlockLists, Block, BlockList, IsBlock, IsBlockList, all_block_bytes, block_bytes}
-use Rattle.row_index.specs.Writing.{GoesBehind, IsBehindBlocks, RowIndexing, block_of, early_rows}
+use Rattle.row_index.specs.Entries.{AreBlocks, AreBlockLists, Block, BlockList, IsBlock, all_block_bytes, block_bytes}
+use Rattle.row_index.specs.Writing.{GoesBehind, IsBehindBlocks, block_of, early_rows}
 use Rattle.row_index.proofs.Rows.{bytes_parted, lists_parted}
 use Rattle.table_files.specs.Blocks.{block_start, blocks_of, ends_block, rows_at}
 use Rattle.table_files.specs.Indexes.{all_indexed, placed, placed_at, row_indexed}
@@ -20,9 +19,9 @@ use Rattle.table_files.proofs.Numbering.{are_lists, data_few}
 use Rattle.flush_walk.specs.declared.current.CurrentPartition.{CurrentPartition}
 use Rattle.flush_walk.specs.declared.writer.TableWriter.{TableWriter}
 use Rattle.flush_walk.specs.Current.{begins_block, blocks_next, current_of, has_some, row_count, with_block_at, with_blocks}
-use Rattle.flush_walk.specs.Given.{Flushing, Given, begun_with, current_bytes, entry_given, growing_of, last_clustering, last_start, listed, opened, opened_bytes, partitions_given, rows_given, start_among, start_behind, turned, with_row}
+use Rattle.flush_walk.specs.Given.{Flushing, Given, begun_with, current_bytes, growing_of, last_clustering, last_start, listed, opened, opened_bytes, partitions_given, rows_given, start_among, start_behind, turned, with_row}
 use Rattle.flush_walk.specs.Growing.{Growing, Grows, Torn, with_bytes}
-use Rattle.flush_walk.specs.Writing.{AreCounts, Goes, IsHeld, WritesTable, has_blocks, rows_in_all}
+use Rattle.flush_walk.specs.Writing.{Goes, IsHeld, WritesTable, has_blocks, rows_in_all}
 use Rattle.flush_walk.proofs.Lists.{are_parted, data_parted}
 use Rattle.flush_walk.proofs.Moves.{all_prefix, cut_on}
 use Rattle.partition_index.specs.File.{early_index}

@@ -1,14 +1,14 @@
 -- The files of a generation in a store, as one of them grows.
-use Rattle.std.proofs.Common.{◌≡◌, ◌≢◌, ◌⊎◌, ℕ, ◌≤◌, Bool, true, false, cond, List, [], ◌∷◌, ◌++◌, length, take, drop, Option, None, Some, Result, Ok, Err, IsErr, inl, inr, unwrap_or, refl, sym, ◌∙◌, ap, subst, arith}
+use Rattle.std.proofs.Common.{◌≡◌, ◌≢◌, ℕ, cond, List, [], ◌∷◌, ◌++◌, take, drop, Option, None, Some, Ok, Err, inl, inr, unwrap_or, refl, sym, ◌∙◌, ap, subst, arith}
 use Rattle.std.proofs.lemmas.List.{append-nil, take-append-drop}
 use Rattle.std.specs.declared.cmp.Ordering.{Ordering}
 use Rattle.std.specs.declared.cmp.Ordering.TheVariants.{Less, Equal, Greater}
-use Rattle.std.specs.Ordering.{eq_by_cmp, is_eq, nat_cmp, ordering_then}
+use Rattle.std.specs.Ordering.{is_eq, nat_cmp, ordering_then}
 use Rattle.std.specs.FinMap as map
 use Rattle.outside.specs.Told.{WhereTold}
 use Rattle.outside.specs.Files.{Appends, Files, LeavesPrefix, bytes_of, file_cmp, file_cmp_total, part_at, part_at-place_of, place_of}
 use Rattle.outside.specs.declared.store.FileId.{FileId}
-use Rattle.outside.proofs.Sets.{bytes_of-same, get-same}
+use Rattle.outside.proofs.Sets.{bytes_of-same}
 use Rattle.data_file.specs.Writing.{GrowsBy}
 use Rattle.page_packer.specs.Packing.{AppendsSome}
 use Rattle.table_files.specs.Names.{data_id, partitions_id, rows_id, schema_id}

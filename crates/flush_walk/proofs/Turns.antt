@@ -1,23 +1,20 @@
 -- What the files are given with one entry more, and when a partition ends.
-use Rattle.std.proofs.Common.{◌≡◌, ◌≢◌, ℕ, ◌+◌, ◌-◌, ◌*◌, ◌^◌, ◌<◌, ◌≤◌, Bool, true, false, List, [], ◌∷◌, ◌++◌, length, Option, Some, None, arith, refl, sym, ◌∙◌, ap, subst}
+use Rattle.std.proofs.Common.{◌≡◌, ℕ, ◌+◌, ◌<◌, Bool, true, List, [], ◌∷◌, ◌++◌, length, Option, arith, refl, sym, ◌∙◌, ap}
 use Rattle.std.specs.Prelude.{◌&&◌, if◌then◌else◌}
 use Rattle.std.proofs.lemmas.List.{append_assoc, append-nil, length-append}
 use Rattle.key_types.specs.Columns.{Columns}
 use Rattle.key_types.specs.declared.schema.ValueType.{ValueType}
 use Rattle.data_file.specs.Listing.{AreRows, Partition, Row, data_bytes, end_bytes, head_bytes, partition_bytes, row_bytes, rows_bytes, static_part_bytes}
-use Rattle.partition_index.specs.Entries.{Numbered}
 use Rattle.partition_index.specs.Writing.{numbered}
 use Rattle.row_index.specs.Entries.{Block, BlockList}
-use Rattle.row_index.specs.File.{row_file, rows_from}
+use Rattle.row_index.specs.File.{row_file}
 use Rattle.row_index.specs.Writing.{block_of}
-use Rattle.key_decode.specs.Strings.{IsStringOf}
 use Rattle.table_files.specs.Blocks.{block_begun, block_start, blocks_among, blocks_behind, blocks_of, ends_block, rows_at}
-use Rattle.table_files.specs.Indexes.{all_indexed, all_numbered, number_at, numbered_from, placed, placed_at, placed_from, row_indexed}
+use Rattle.table_files.specs.Indexes.{all_indexed, all_numbered, number_at, placed, placed_at, row_indexed}
 use Rattle.table_files.proofs.Strings.{string_some}
 use Rattle.flush_walk.specs.Current.{has_some, number_turned, with_blocks}
 use Rattle.flush_walk.specs.Given.{Flushing, Given, begun_with, clustering_behind, growing_of, last_clustering, last_start, opened, opened_bytes, rows_given, start_among, start_behind, turned, with_row}
-use Rattle.flush_walk.specs.Growing.{Growing, with_bytes}
-use Rattle.flush_walk.specs.Writing.{has_blocks}
+use Rattle.flush_walk.specs.Growing.{with_bytes}
 use Rattle.flush_walk.proofs.Lists.{blocks_behind_more, clustering_with, data_parted, indexed_parted, numbered_parted, placed_parted, rows_bytes_more, start_behind_more}
 
 -- ---- a partition begins

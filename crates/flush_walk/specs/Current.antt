@@ -1,7 +1,7 @@
 -- What is held of the open partition: only private contracts cite it.
 use Rattle.std.specs.Prelude.{ℕ, ℤ, Bool, true, false, ◌&&◌, List, [], ◌∷◌, ◌++◌, length, if◌then◌else◌}
 use Rattle.data_file.specs.Listing.{Partition, data_bytes}
-use Rattle.row_index.specs.Entries.{Block, BlockList}
+use Rattle.row_index.specs.Entries.{Block}
 use Rattle.row_index.specs.File.{row_file}
 use Rattle.row_index.specs.Writing.{block_of}
 use Rattle.table_files.specs.Blocks.{blocks_of, ends_block}

@@ -1,5 +1,5 @@
 -- The entries that a writer of a table is given, in order, and the partitions that they are.
-use Rattle.std.specs.Prelude.{◌≡◌, ◌⊎◌, ℕ, ◌+◌, ◌<◌, Bool, true, false, List, [], ◌∷◌, ◌++◌, length, Option, None, Some, if◌then◌else◌, nat_eq}
+use Rattle.std.specs.Prelude.{◌≡◌, ◌⊎◌, ℕ, ◌+◌, ◌<◌, List, [], ◌∷◌, ◌++◌, length, Option, None, Some, if◌then◌else◌, nat_eq}
 use Rattle.std.specs.declared.cmp.Ordering.TheVariants.{Less}
 use Rattle.std.specs.Cmp.Lexicographic.{pointwise}
 use Rattle.outside.specs.Files.{Files}
@@ -116,6 +116,17 @@ pub record TakesEntry (w : Flushing) (e : Given) : Type 0 where
   pub behind : IsBehindKey w.columns e.clustering e.value
   pub above : IsAboveLast w w.current e
   pub few : length (entries_in (partitions_given w)) < 1000000
+
+-- ---- more entries, in order
+
+abbrev pub with_entries : Flushing → List Given → Flushing
+with_entries w [] = w
+with_entries w (e ∷ es) = with_entries (with_entry w e) es
+
+-- each of them may come next behind those before it
+abbrev pub TakesEntries : Flushing → List Given → Type 0
+TakesEntries w [] = Unit {0}
+TakesEntries w (e ∷ es) = TakesEntry w e × TakesEntries (with_entry w e) es
 
 -- ---- what the files are given
 

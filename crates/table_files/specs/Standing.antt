@@ -6,7 +6,9 @@ use Rattle.key_types.specs.Columns.{Columns}
 use Rattle.key_types.specs.Table.{Entry, Table, string_cmp}
 use Rattle.outside.specs.Files.{Files, bytes_of}
 use Rattle.data_file.specs.Listing.{Row, Partition, ArePartitions, Lists}
-use Rattle.table_files.specs.Names.{data_id, schema_id}
+use Rattle.table_files.specs.IndexMeaning.{IndexFilesStand}
+use Rattle.table_files.specs.Indexes.{placed}
+use Rattle.table_files.specs.Names.{data_id, partitions_id, rows_id, schema_id}
 use Rattle.table_files.specs.SchemaFile.{IsSchemaFile}
 
 -- ---- the entries that Data.db lists
@@ -60,5 +62,8 @@ pub record Holds (columns : Columns) (bytes : List ℕ) (entries : List Entry) :
 pub record StandFor (files : Files) (generation : ℕ) (columns : Columns) (table : Table) : Type 0 where
   -- Data.db holds the entries of the map
   pub held : Holds columns (bytes_of files (data_id generation)) (finite.entries table)
+  -- Partitions.db and Rows.db index the partitions that it lists
+  pub indexes : IndexFilesStand (bytes_of files (partitions_id generation)) (bytes_of files (rows_id generation))
+      (placed columns.static_value held.partitions)
   -- Schema.txt is the whole text of the columns
   pub schema : IsSchemaFile columns (bytes_of files (schema_id generation))

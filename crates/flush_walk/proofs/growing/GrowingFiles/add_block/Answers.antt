@@ -1,4 +1,4 @@
-use Rattle.std.proofs.Common.{rules, refl}
+use Rattle.std.proofs.Common.{refl}
 use Rattle.row_index.specs.Writing.{block_of}
 use Rattle.row_index.proofs.Growing.{early_rows_grow}
 use Rattle.flush_walk.proofs.Moves.{some_rows_move, written_block}

@@ -1,4 +1,4 @@
-use Rattle.std.proofs.Common.{rules, refl, ap, length}
+use Rattle.std.proofs.Common.{rules, ap}
 use Rattle.std.specs.Prelude.{Option, List, ℕ}
 use Rattle.data_file.specs.Listing.{head_bytes, rows_bytes, static_part_bytes}
 use Rattle.flush_walk.specs.Given.{rows_given, static_given}

@@ -1,4 +1,4 @@
-use Rattle.std.proofs.Common.{rules, refl}
+use Rattle.std.proofs.Common.{refl}
 use Rattle.flush_walk.proofs.Moves.{listing_moves}
 use Rattle.flush_walk.proofs.growing.GrowingFiles.close_partition.Goals as goal
 

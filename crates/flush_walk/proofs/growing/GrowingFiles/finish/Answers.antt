@@ -1,4 +1,4 @@
-use Rattle.std.proofs.Common.{rules, refl}
+use Rattle.std.proofs.Common.{rules}
 use Rattle.bti_nodes.specs.declared.damage.PackError.{PackError}
 use Rattle.flush_walk.proofs.Finish.{ends_err, index_end, listing_cut_off, listing_ends, rows_cut_off, rows_end}
 use Rattle.flush_walk.proofs.growing.GrowingFiles.finish.Goals as goal

@@ -1,4 +1,4 @@
-use Rattle.std.proofs.Common.{rules, refl}
+use Rattle.std.proofs.Common.{refl}
 use Rattle.row_index.proofs.Growing.{partition_ends}
 use Rattle.flush_walk.proofs.Moves.{all_rows_move, at_begun, written_partition}
 use Rattle.flush_walk.proofs.growing.GrowingFiles.finish_rows.Goals as goal

@@ -1,4 +1,4 @@
-use Rattle.std.proofs.Common.{rules, refl, Ok, sym, ◌∙◌, option_copied}
+use Rattle.std.proofs.Common.{rules, refl, Ok, option_copied}
 use Rattle.bti_nodes.specs.declared.damage.PackError.{PackError}
 use Rattle.flush_walk.proofs.Moves.{no_static_part, static_moves, torn_as}
 use Rattle.flush_walk.proofs.growing.GrowingFiles.static_part.Goals as goal

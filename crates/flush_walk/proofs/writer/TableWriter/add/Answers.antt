@@ -1,5 +1,5 @@
-use Rattle.std.proofs.Common.{rules, ◌≡◌, refl, arith, ap, subst, sym, ◌∙◌}
-use Rattle.flush_walk.specs.Given.{Flushing, begun_with, entry_given, turned, with_entry}
+use Rattle.std.proofs.Common.{rules, subst, sym, ◌∙◌}
+use Rattle.flush_walk.specs.Given.{Flushing, entry_given, turned}
 use Rattle.flush_walk.specs.Writing.{Goes, LeavesBegun}
 use Rattle.flush_walk.proofs.Adds.{adds_by, adds_none, begins, entry_short, gone, torn_goes, turned_begins}
 use Rattle.flush_walk.proofs.Prefixes.{torn_begun}

@@ -1,7 +1,6 @@
-use Rattle.std.proofs.Common.{rules, refl, arith}
-use Rattle.std.proofs.lemmas.List.{length-append}
-use Rattle.flush_walk.specs.Given.{begun_with, entry_given, opened, turned}
-use Rattle.flush_walk.proofs.Moves.{grows_torn, torn_of}
+use Rattle.std.proofs.Common.{refl, arith}
+use Rattle.flush_walk.specs.Given.{entry_given}
+use Rattle.flush_walk.proofs.Moves.{grows_torn}
 use Rattle.flush_walk.proofs.Steps.{begun_torn, begun_writes, goes_err, counts_few, place_few, row_count_few, rows_few}
 use Rattle.flush_walk.proofs.writer.TableWriter.begin.Goals as goal
 

@@ -1,14 +1,13 @@
 use Rattle.std.proofs.Common.{rules, false, ◌≡◌, ◌<◌, ◌≤◌, ◌++◌, ◌∷◌, [], List, ℕ, length, refl, arith, ap, subst, sym, ◌∙◌, w64}
 use Rattle.std.specs.Prelude.{ℤ, pos, negsuc, ◌-◌, ◌^◌, ◌≤ℤ◌, ◌<ℤ◌}
-use Rattle.std.proofs.lemmas.Int.{ints, to_z-of_z}
+use Rattle.std.proofs.lemmas.Int.{to_z-of_z}
 use mir.Val.{SFits, of_z, to_z}
-use Rattle.data_file.specs.Listing.{end_bytes}
 use Rattle.data_file.specs.Writing.{Writing}
 use Rattle.partition_index.specs.Entries.{AreNumbered, Numbered}
 use Rattle.partition_index.specs.Writing.{HasRoom, TakesPartition, numbered, with_partition}
 use Rattle.flush_walk.specs.declared.writer.TableWriter.{TableWriter}
 use Rattle.flush_walk.specs.Current.{number_turned, rows_turned}
-use Rattle.flush_walk.specs.Given.{Flushing, growing_of, opened, turned}
+use Rattle.flush_walk.specs.Given.{Flushing, turned}
 use Rattle.flush_walk.specs.Growing.{Grows, Moves}
 use Rattle.flush_walk.specs.Writing.{Goes, WritesTable}
 use Rattle.flush_walk.proofs.Moves.{torn_of}

@@ -1,4 +1,4 @@
-use Rattle.std.proofs.Common.{rules, ◌≡◌, refl, arith, ap, subst, List, ℕ, ◌∙◌, length, w64}
+use Rattle.std.proofs.Common.{rules, ◌≡◌, arith, ap, subst, List, ℕ, ◌∙◌, length, w64}
 use Rattle.std.specs.Prelude.{negsuc}
 use Rattle.std.proofs.lemmas.Int.{ints, to_z_pos}
 use mir.Val.{of_z, to_z}

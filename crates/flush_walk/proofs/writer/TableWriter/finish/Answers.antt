@@ -1,11 +1,10 @@
-use Rattle.std.proofs.Common.{rules, ◌≡◌, List, ℕ, Ok, refl, ap, subst, sym, ◌∙◌}
+use Rattle.std.proofs.Common.{rules, ◌≡◌, List, ℕ, Ok, refl, ap, subst, ◌∙◌}
 use Rattle.outside.specs.Files.{Appends}
 use Rattle.outside.specs.declared.store.FileId.{FileId}
 use Rattle.outside.specs.declared.stream.Failed.{Failed}
 use Rattle.table_files.specs.Names.{schema_id}
 use Rattle.table_files.specs.SchemaFile.{schema_file_text}
 use Rattle.flush_walk.specs.Given.{Flushing, growing_of, turned}
-use Rattle.flush_walk.specs.Growing.{CutOff, ended}
 use Rattle.flush_walk.specs.Writing.{WritesTable}
 use Rattle.flush_walk.proofs.Adds.{torn_goes}
 use Rattle.flush_walk.proofs.Final.{adds, closed_torn_begun, counts_turned, cut_off_begun, ends_cut, finishes_err, four_there, indexed, schema_begun, stand}

@@ -1,8 +1,7 @@
-use Rattle.std.proofs.Common.{rules, refl, arith, ap, ℕ, ◌+◌, ◌-◌, ◌∙◌}
+use Rattle.std.proofs.Common.{rules, arith, ap, ℕ, ◌+◌, ◌-◌, ◌∙◌}
 use Rattle.data_file.specs.Writing.{Writing}
 use Rattle.data_file.specs.declared.writer.Counts.{Counts}
 use Rattle.flush_walk.specs.declared.writer.TableWriter.{TableWriter}
-use Rattle.flush_walk.specs.Current.{blocks_next, with_blocks}
 use Rattle.flush_walk.specs.Given.{growing_of, opened}
 use Rattle.flush_walk.proofs.Moves.{grows_torn, torn_of}
 use Rattle.flush_walk.proofs.Steps.{block_torn, end_some, goes_err, next_torn, next_writes, place_few, ready, rows_few, start_few}
