@@ -1,5 +1,5 @@
 -- How a scan ends.
-use Rattle.std.proofs.Common.{◌≡◌, ◌⊎◌, ℕ, ◌+◌, ◌≤◌, false, List, [], ◌∷◌, ◌++◌, length, Option, None, Some, Result, Ok, Err, inl, inr, refl, sym, ap, ◌∙◌, subst, arith, append_assoc, length-append, ⊎_elim}
+use Rattle.std.proofs.Common.{◌≡◌, ◌⊎◌, ℕ, ◌≤◌, false, List, [], ◌++◌, length, Option, None, Some, Result, Ok, Err, inl, inr, refl, sym, ap, ◌∙◌, subst, arith, append_assoc, length-append, ⊎_elim}
 use Rattle.std.proofs.lemmas.List.{append-nil, take-append-le}
 use Rattle.std.proofs.Math.Seq.{take-nil}
 use Rattle.std.specs.Prelude.{IfSome}
@@ -29,7 +29,7 @@ use Rattle.table_tool.proofs.ScanLemmas.{cut_prefix}
 use Rattle.table_files.proofs.SchemaLemmas.{one_schema}
 use Rattle.table_files.proofs.WalkLemmas.{stands_walk}
 use Rattle.table_tool.specs.Outside.{FaultRose, Outside, SinkFails, StoreFails, outside_of}
-use Rattle.table_tool.proofs.Writes.{told_so, told_then}
+use Rattle.table_tool.proofs.Told.{told_so, told_then}
 use Rattle.table_files.specs.Names.{data_id, schema_id}
 use Rattle.table_files.specs.SchemaFile.{IsSchemaFile, IsWholeSchemaFile}
 use Rattle.table_files.specs.Standing.{StandFor}

@@ -3,8 +3,6 @@ use Rattle.std.proofs.Common.{◌≡◌, ◌+◌, ◌++◌, ℕ, Bool, List, [],
 use Rattle.std.proofs.lemmas.List.{append-nil}
 use Rattle.std.specs.Prelude.{IfSome, if◌then◌else◌}
 use Rattle.std.specs.FinMap as map
-use Rattle.std.specs.declared.string.String.{String}
-use Rattle.std.specs.declared.alloc.Global.{Global}
 use Rattle.outside.specs.Files.{Files}
 use Rattle.outside.specs.Told.{WhereTold}
 use Rattle.key_types.specs.Columns.{Columns}
@@ -12,7 +10,7 @@ use Rattle.byte_comparable.specs.Encoding.{key_string}
 use Rattle.key_types.specs.Table.{Table}
 use Rattle.script_text.proofs.Meaning.{meaning}
 use Rattle.script_text.specs.Lines.{lines_of}
-use Rattle.script_text.specs.Meaning.{AreAcceptedLines, IsScript, script_with}
+use Rattle.script_text.specs.Meaning.{AreAcceptedLines, IsScript}
 use Rattle.script_text.specs.Puts.{Put}
 use Rattle.script_text.specs.Script.{puts_of, script_of}
 use Rattle.script_text.specs.declared.script.Script.{Script}
@@ -33,7 +31,7 @@ use Rattle.script_text.specs.Laws.{AreOfKeys}
 use Rattle.script_text.proofs.Ascending.{entries_ascend}
 use Rattle.table_tool.specs.Entries.{is_row, row_count}
 use Rattle.table_tool.specs.Printed.{AreKeyLines, IsTableText, entry_line, entry_lines, key_line, rows_of_key, rows_text}
-use Rattle.table_tool.proofs.Writes.{told_so}
+use Rattle.table_tool.proofs.Told.{told_so}
 use Rattle.table_tool.proofs.PrintedLemmas.{is_row_entry, is_static_entry, row_named, some_key, static_named}
 use Rattle.table_tool.specs.Rows.{rows_of, table_put}
 use Rattle.table_tool.specs.Scanning.{ScanEnds, ScanPrints}

@@ -13,7 +13,7 @@ use Rattle.outside.specs.Files.{Files}
 use Rattle.table_tool.specs.Keys.{IsOfKey, KeyEnds, WritesLine}
 use Rattle.table_tool.specs.Outcome.{IsOrNoMemory, PrintsText, SaysRefusal}
 use Rattle.table_tool.specs.Outside.{FaultRose, Outside, outside_of}
-use Rattle.table_tool.proofs.Writes.{told_so}
+use Rattle.table_tool.proofs.Told.{told_so}
 
 -- a text has one line
 one_line : (way : KeyWay) (kinds : Kinds) (text a b : List ℕ) → ShowsLine way kinds text a → ShowsLine way kinds text b → a ≡ b

@@ -7,13 +7,12 @@ mod RequestLemmas
 mod KeyLemmas
 mod EndLemmas
 mod MapLemmas
-pub mod Flushed
-pub mod Grouped
-pub mod Holding
+pub mod Ascending
+pub mod Fed
 pub mod LoadedLemmas
 pub mod PrintedLemmas
 pub mod RowLemmas
-pub mod Writes
+pub mod Told
 pub mod PartsLemmas
 mod RunLemmas
 mod Headline

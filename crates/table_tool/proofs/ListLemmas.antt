@@ -1,5 +1,5 @@
 -- How `list` ends.
-use Rattle.std.proofs.Common.{◌≡◌, ◌⊎◌, ℕ, List, Option, None, Some, Result, Ok, Err, inl, inr, refl, sym, ◌∙◌, subst}
+use Rattle.std.proofs.Common.{◌≡◌, ◌⊎◌, ℕ, List, Option, None, Some, Result, Ok, inl, inr, refl, sym, ◌∙◌, subst}
 use Rattle.std.specs.Prelude.{IfSome}
 use Rattle.outside.specs.Causes.{Rose}
 use Rattle.outside.specs.Files.{Files}
@@ -10,7 +10,7 @@ use Rattle.table_tool.specs.declared.status.Status.TheVariants as status
 use Rattle.table_tool.specs.Listing.{GivesOrFault, IsListed, IsOfList, ListEnds, WritesRows, listing}
 use Rattle.table_tool.specs.Outcome.{IsOrNoMemory, PrintsText, SaysRefusal, ended}
 use Rattle.table_tool.specs.Outside.{FaultRose, Outside, outside_of}
-use Rattle.table_tool.proofs.Writes.{told_so}
+use Rattle.table_tool.proofs.Told.{told_so}
 
 if_so : {A : Type 0} (o : Option A) (P Q : A → Type 0) → ((x : A) → P x → Q x) → IfSome o P → IfSome o Q
 if_so None P Q step p = tt

@@ -8,7 +8,7 @@ use Rattle.key_decode.specs.Reading.{values_at}
 use Rattle.key_decode.specs.Strings.{IsStringOf, BeginsString}
 use Rattle.key_decode.proofs.Known.{read_of, taken}
 use Rattle.table_tool.specs.Entries.{partition_in, clustering_in, has_some, rest_behind}
-use Rattle.table_tool.specs.Grouping.{IsTableEntry}
+use Rattle.table_tool.specs.TableEntries.{IsTableEntry}
 use Rattle.table_tool.proofs.PrintedLemmas.{some_key}
 
 module _ (columns : Columns) where

@@ -13,7 +13,7 @@ use Rattle.key_decode.proofs.Known.{read_key}
 use Rattle.key_text.specs.Written.{equals_literal}
 use Rattle.key_printing.specs.Texts.{IsTextOf, PutsText}
 use Rattle.table_tool.specs.Entries.{has_some, is_row, rest_behind, row_count}
-use Rattle.table_tool.specs.Grouping.{row_at}
+use Rattle.table_tool.specs.TableEntries.{row_at}
 use Rattle.table_tool.specs.Lines.{EndsLine}
 use Rattle.table_tool.specs.Printed.{entry_line, entry_lines, line_behind, line_by, row_by, row_line, static_by, static_line}
 use Rattle.table_files.specs.Standing.{static_entries}

@@ -21,7 +21,8 @@ use Rattle.script_text.specs.Script.{entries_of, entry_of_put, puts_of}
 use Rattle.script_text.specs.Laws.{ArePuts, IsAccepted, IsKeyString, IsSchemaPut, IsRowPut, IsStaticPut}
 use Rattle.script_text.proofs.Accepted.{accepted_script}
 use Rattle.table_tool.specs.Entries.{clustering_in}
-use Rattle.table_tool.specs.Grouping.{AreTableEntries, IsBehind, IsTableEntry}
+use Rattle.flush_walk.specs.Given.{IsBehindKey}
+use Rattle.table_tool.specs.TableEntries.{AreTableEntries, IsTableEntry}
 use Rattle.table_tool.specs.Input.{IsSpelled}
 use Rattle.table_tool.specs.Rows.{rows_after, rows_of}
 use Rattle.table_tool.proofs.MapLemmas.{rows_after_is}
@@ -32,14 +33,14 @@ use Rattle.table_tool.proofs.PartsLemmas.{parted, some_string}
 key_is_string : (ts : Kinds) (string : List ℕ) → IsKeyString ts string → IsStringOf ts string
 key_is_string ts string (vs, fits, e, short) = (vs, fitting ts vs fits (subst (λ (s : List ℕ). length s ≤ 1024) e short) ∙ ap Ok (sym e))
 
-row_behind : (columns : Columns) (clustering value : List ℕ) → IsKeyString columns.clustering clustering → IsValueOf columns.value value → IsBehind columns clustering value
+row_behind : (columns : Columns) (clustering value : List ℕ) → IsKeyString columns.clustering clustering → IsValueOf columns.value value → IsBehindKey columns clustering value
 row_behind columns [] value key is = let never = some_string columns.clustering [] (key_is_string columns.clustering [] key) in cc
 row_behind columns (b ∷ bs) value key is = (key_is_string columns.clustering (b ∷ bs) key, is)
 
-put_behind : (columns : Columns) (put : Put) → IsRowPut columns put ⊎ IsStaticPut columns put → IsBehind columns put.clustering put.value
+put_behind : (columns : Columns) (put : Put) → IsRowPut columns put ⊎ IsStaticPut columns put → IsBehindKey columns put.clustering put.value
 put_behind columns put (inl (key, value)) = row_behind columns put.clustering put.value key value
 put_behind columns put (inr (type, static_part, empty, value)) =
-    subst (λ (c : List ℕ). IsBehind columns c put.value) (sym empty) (subst (λ (static : Option ValueType). FitsStaticType static (Some put.value)) (sym static_part) value)
+    subst (λ (c : List ℕ). IsBehindKey columns c put.value) (sym empty) (subst (λ (static : Option ValueType). FitsStaticType static (Some put.value)) (sym static_part) value)
 
 of_put : (columns : Columns) (put : Put) → IsSchemaPut columns put → IsTableEntry columns (entry_of_put put)
 of_put columns put (key, behind) =
@@ -47,7 +48,7 @@ of_put columns put (key, behind) =
     let parts = parted columns (put.partition ++ put.clustering) put.partition put.clustering string refl in
     record {
       partition = subst (IsStringOf columns.partition) (sym parts.0) string;
-      behind = subst (λ (c : List ℕ). IsBehind columns c put.value) (sym parts.1) (put_behind columns put behind);
+      behind = subst (λ (c : List ℕ). IsBehindKey columns c put.value) (sym parts.1) (put_behind columns put behind);
       parts = ap (λ (p : List ℕ). p ++ clustering_in columns (put.partition ++ put.clustering)) parts.0 ∙ ap (λ (c : List ℕ). put.partition ++ c) parts.1;
     }
 

@@ -13,7 +13,7 @@ pub mod Listing
 pub mod Steps
 pub mod Scanning
 pub mod Scanned
-pub mod Grouping
+pub mod TableEntries
 pub mod Loading
 pub mod Keys
 pub mod Run

@@ -1,5 +1,5 @@
 -- The whole outcome of `list`, and how it ends. This project's own.
-use Rattle.std.specs.Prelude.{◌≡◌, ℕ, List, ◌++◌, Option, Result, Ok, Err, IfSome}
+use Rattle.std.specs.Prelude.{◌≡◌, ℕ, List, ◌++◌, Result, Ok, Err, IfSome}
 use Rattle.outside.specs.Told.{WhereTold}
 use Rattle.key_types.specs.Columns.{Columns}
 use Rattle.script_text.specs.declared.script.Script.{Script}

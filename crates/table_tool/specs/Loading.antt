@@ -1,26 +1,28 @@
 -- How `load` ends, what it leaves in the store, and what it writes. This project's own.
-use Rattle.std.specs.Prelude.{◌≡◌, ◌⊎◌, ℕ, false, List, ◌++◌, length, codes, Option, Result, Ok, Err, IfSome, MatchResult, IsTrue}
+use Rattle.std.specs.Prelude.{◌≡◌, ◌⊎◌, ℕ, false, List, ◌++◌, length, map, codes, Option, Result, Ok, Err, IfOk, IfSome, OnErr, OnOk, IsTrue}
 use Rattle.std.specs.Fmt.{decimal}
-use Rattle.std.specs.FinMap as map
 use Rattle.outside.specs.Told.{WhereTold}
-use Rattle.outside.specs.Files.{Files, LeavesPrefix, bytes_of}
-use Rattle.outside.specs.declared.store.FileId.{FileId}
+use Rattle.outside.specs.Files.{Files}
 use Rattle.key_types.specs.Columns.{Columns}
-use Rattle.data_file.specs.Writing.{PutsAllBut}
+use Rattle.key_types.specs.Table.{Entry}
+use Rattle.data_file.specs.Listing.{Partition}
+use Rattle.data_file.specs.declared.writer.Counts.{Counts}
 use Rattle.script_text.specs.Puts.{Put}
 use Rattle.script_text.specs.declared.script.Script.{Script}
 use Rattle.script_text.specs.declared.script.ScriptError.{ScriptError}
 use Rattle.script_text.specs.declared.script.ScriptError.TheVariants as script_error
 use Rattle.script_text.specs.Script.{script_of, puts_of}
-use Rattle.table_files.specs.Names.{data_id, schema_id}
-use Rattle.table_files.specs.SchemaFile.{schema_file_text}
-use Rattle.table_files.specs.Standing.{Holds, StandFor}
+use Rattle.table_files.specs.Standing.{AreOfTable, StandFor, entries_in}
 use Rattle.table_files.specs.There.{any_there}
+use Rattle.flush_walk.specs.Given.{Flushing, nothing_given, partitions_given, with_entries}
+use Rattle.flush_walk.specs.Growing.{FourFiles, HaveBytes}
+use Rattle.flush_walk.specs.Writing.{AddsFour, AreBegun, AreCounts, BeginsFiles, StandForGiven, files_of_table}
 use Rattle.table_tool.specs.declared.status.Status.{Status}
 use Rattle.table_tool.specs.declared.status.Status.TheVariants as status
 use Rattle.table_tool.specs.Entries.{row_count}
 use Rattle.table_tool.specs.First.{first_generation}
 use Rattle.table_tool.specs.Rows.{rows_of, table_put}
+use Rattle.table_tool.specs.TableEntries.{given_in}
 use Rattle.table_tool.specs.Outcome.{IsOrNoMemory, PrintsText, WritesRefusal, ended}
 use Rattle.table_tool.specs.Outside.{FaultRose, KeepsSource, Outside, SinkFails, SourceFails, StoreFails}
 
@@ -44,18 +46,19 @@ abbrev pub ok_line : ℕ → ℕ → ℕ → List ℕ
 ok_line puts rows partitions =
     codes "ok puts " ++ decimal puts ++ codes " rows " ++ decimal rows ++ codes " partitions " ++ decimal partitions ++ codes "\n"
 
--- Data.db of these bytes and Schema.txt were added, and nothing else changed
-abbrev pub AddsFiles : Columns → List ℕ → Files → Files → Type 0
-AddsFiles columns bytes old new = new ≡ map.insert (map.insert old (data_id first_generation) bytes) (schema_id first_generation) (schema_file_text columns)
+-- the partitions are those of a table, and of these entries
+pub record ArePartitionsOf (columns : Columns) (partitions : List Partition) (entries : List Entry) : Type 0 where
+  pub table : AreOfTable columns partitions
+  pub same : entries_in partitions ≡ entries
 
--- the files of the puts were added and stand for their rows, and this line has their numbers
+-- the four files of the puts were added, and nothing else changed; they stand for their rows, and this line has their numbers
 pub record Loaded (columns : Columns) (puts : List Put) (files files' : Option Files) (line : List ℕ) : Type 0 where
   -- those of Data.db
-  pub bytes : List ℕ
-  pub held : Holds columns bytes (rows_of puts)
-  pub added : WhereTold files files' (AddsFiles columns bytes)
+  pub partitions : List Partition
+  pub are : ArePartitionsOf columns partitions (rows_of puts)
+  pub added : WhereTold files files' (AddsFour first_generation (files_of_table columns partitions))
   pub stand : IfSome files' (λ new. StandFor new first_generation columns (table_put puts))
-  pub counts : line ≡ ok_line (length puts) (row_count columns (rows_of puts)) (length held.partitions)
+  pub counts : line ≡ ok_line (length puts) (row_count columns (rows_of puts)) (length partitions)
 
 -- the files of what is expected were added, and their line printed
 abbrev pub LoadPrints : Columns → Result (List Put) Status → Option Files → Option Files → Status → Option (List ℕ) → Option (List ℕ) → Type 0
@@ -129,18 +132,17 @@ IsOfLoad status.Exists = Unit {0}
 IsOfLoad status.TooLarge = Unit {0}
 IsOfLoad status.NoMemory = Unit {0}
 
--- a prefix of these bytes was added as this file, which may still not be there where it is empty
-abbrev pub Started : FileId → List ℕ → Files → Files → Type 0
-Started file bytes old new = (new ≡ old) ⊎ ((front : List ℕ) × (rest : List ℕ) × (bytes ≡ front ++ rest) × (new ≡ map.insert old file front))
-
--- a prefix of Data.db was added, or the whole of it and a prefix of Schema.txt
-abbrev pub Begun : Columns → List ℕ → Files → Files → Type 0
-Begun columns bytes old new = Started (data_id first_generation) bytes old new ⊎ Started (schema_id first_generation) (schema_file_text columns) (map.insert old (data_id first_generation) bytes) new
+-- each of the four files has a prefix of what it is to have, one that isn't there counting as an empty one, and Schema.txt has
+-- bytes only where the others are whole; all other files are as they were
+abbrev pub Begun : Columns → List Partition → Files → Files → Type 0
+Begun columns partitions old new =
+    (part : FourFiles) × AreBegun part (files_of_table columns partitions) × HaveBytes first_generation part old new
 
 -- the store is as it was, or the files of what is expected were begun
 abbrev pub ChangesFiles : Columns → Result (List Put) Status → Files → Files → Type 0
 ChangesFiles columns expected old new =
-    (new ≡ old) ⊎ ((puts : List Put) × (bytes : List ℕ) × (expected ≡ Ok puts) × Holds columns bytes (rows_of puts) × Begun columns bytes old new)
+    (new ≡ old) ⊎ ((puts : List Put) × (partitions : List Partition) × (expected ≡ Ok puts)
+    × ArePartitionsOf columns partitions (rows_of puts) × Begun columns partitions old new)
 
 -- How `load` ends, from the columns of its schema.
 pub record LoadEnds (columns : Columns) (before after : Outside) (result : Status) : Type 0 where
@@ -160,29 +162,23 @@ pub record LoadEnds (columns : Columns) (before after : Outside) (result : Statu
       → ¬ (SourceFails before after) → ¬ (SinkFails before after) → ¬ (StoreFails before after) → IsOrNoMemory (ended (loading columns bytes)) result))
   -- the files are as they were after the refusals that come before they are written
   pub kept : KeepsFiles result before.files after.files
-  -- and whatever the end, they are as they were, or the script is accepted, and a prefix of its Data.db was added, or the whole of it and a prefix of Schema.txt
+  -- and whatever the end, they are as they were, or the script is accepted, and a prefix of each of its files is there
   pub changes : IfSome before.left (λ bytes. WhereTold before.files after.files (ChangesFiles columns (loading columns bytes)))
   -- a refusal has written its line and nothing else
   pub refusal : WritesRefusal before after result
 
 -- ---- the parts of `load`: only private contracts cite what follows
 
--- none of the table's files is there, where the files are told
-abbrev pub NoneThere : Option Files → Type 0
-NoneThere files = IfSome files (λ old. any_there first_generation old ≡ false)
+-- what the writer of the files was given when all entries are
+abbrev pub all_given : Columns → Option Files → List Entry → Flushing
+all_given columns files entries = with_entries (nothing_given first_generation columns files) (map (given_in columns) entries)
 
--- of these bytes a prefix was put into Data.db, or all of them and then a prefix of the schema's text into Schema.txt, behind what was there
-abbrev pub Reaches : Columns → List ℕ → Files → Files → Type 0
-Reaches columns bytes old new =
-    ((left : List ℕ) × PutsAllBut old new (data_id first_generation) bytes left)
-    ⊎ LeavesPrefix (map.insert old (data_id first_generation) (bytes_of old (data_id first_generation) ++ bytes)) new (schema_id first_generation) (schema_file_text columns)
-
--- both files were put into the store, behind what was there, and else a prefix of them
-abbrev pub Flushes : {T E : Type 0} → Columns → Option Files → Option Files → Result T E → List ℕ → Type 0
-Flushes columns files files' result bytes =
-    WhereTold files files' (λ old new. MatchResult result
-    (λ _. new ≡ map.insert (map.insert old (data_id first_generation) (bytes_of old (data_id first_generation) ++ bytes)) (schema_id first_generation) (bytes_of old (schema_id first_generation) ++ schema_file_text columns))
-    (λ _. Reaches columns bytes old new))
+-- at Ok the files of all that was given were added, they stand for it, and the counts are its; after an error a part of them stands
+pub record Flushes (w : Flushing) (after : Option Files) {E : Type 0} (result : Result Counts E) : Type 0 where
+  pub adds : OnOk result (WhereTold w.before after (AddsFour w.generation (files_of_table w.columns (partitions_given w))))
+  pub stand : OnOk result (IfSome after (StandForGiven w))
+  pub counts : IfOk result (λ counts. AreCounts counts (partitions_given w))
+  pub begun : OnErr result (BeginsFiles w (partitions_given w) after)
 
 -- the statuses that end `load` before its line is printed
 abbrev pub StopsLoad : Status → Type 0

@@ -1,5 +1,5 @@
 -- What a run has written, by its status. This project's own.
-use Rattle.std.specs.Prelude.{◌≡◌, ◌⊎◌, ℕ, ◌≤◌, List, ◌++◌, length, take, Option, Result, Ok, Err}
+use Rattle.std.specs.Prelude.{◌≡◌, ◌⊎◌, ℕ, ◌≤◌, List, ◌++◌, length, take, Result, Ok, Err}
 use Rattle.outside.specs.Told.{WhereTold}
 use Rattle.outside.specs.Causes.{Rose}
 use Rattle.table_tool.specs.declared.status.Status.{Status}

@@ -6,10 +6,11 @@ ghost use Rattle.script_text.specs.Script.{puts_of};
 ghost use Rattle.key_types.specs.Columns.{columns_of};
 ghost use Rattle.table_files.specs.SchemaFile.{HaveSchemaFile};
 ghost use Rattle.table_files.specs.There.{any_there};
+ghost use Rattle.flush_walk.specs.Growing.{NoneOf};
 ghost use Rattle.table_tool.specs.First.{first_generation};
 ghost use Rattle.table_tool.specs.Outside.{outside_of};
 ghost use Rattle.table_tool.specs.Input.{IsSpelled};
-ghost use Rattle.table_tool.specs.Loading.{ok_line, loading, ChangesFiles, Loaded, LoadEnds, LoadsOrRefuses, IsExists, KeepsFiles, NoneThere, StopsLoad};
+ghost use Rattle.table_tool.specs.Loading.{ok_line, loading, ChangesFiles, Loaded, LoadEnds, LoadsOrRefuses, IsExists, KeepsFiles, StopsLoad};
 
 use crate::first::FIRST_GENERATION;
 use crate::flush::flush;
@@ -46,7 +47,7 @@ fn load_script<K: Store>(
 ) -> Result<ByteList, PackError>
     requires columns { HaveSchemaFile (columns_of schema.now) }
     requires spelled { IsSpelled (columns_of schema.now) script }
-    requires none { NoneThere (K.files store.old) }
+    requires none { NoneOf first_generation (K.files store.old) }
     ensures loaded { IfOk result (Loaded (columns_of schema.now) (puts_of script.batches) (K.files store.old) (K.files store.new)) }
     ensures changes { WhereTold (K.files store.old) (K.files store.new) (ChangesFiles (columns_of schema.now) (Ok (puts_of script.batches))) }
     ensures later { K.faults store.old ≤ K.faults store.new }
@@ -66,7 +67,7 @@ fn load_source<S: Source, K: Store>(
     store: &mut K,
 ) -> Result<ByteList, Status>
     requires columns { HaveSchemaFile (columns_of schema.now) }
-    requires none { NoneThere (K.files store.old) }
+    requires none { NoneOf first_generation (K.files store.old) }
     ensures loads { IfSome (S.left source.old) (λ bytes. LoadsOrRefuses (columns_of schema.now) result (loading (columns_of schema.now) bytes) (K.files store.old) (K.files store.new)) }
     ensures stops { IfErr result StopsLoad }
     ensures not_exists { ¬ (result ≡ Err Status.Exists) }

@@ -5,7 +5,7 @@ ghost use Rattle.key_types.specs.Columns.{columns_of};
 ghost use Rattle.key_types.specs.Kinds.{kinds_of};
 ghost use Rattle.key_decode.specs.Strings.{BeginsString};
 ghost use Rattle.table_tool.specs.Entries.{clustering_in, partition_in};
-ghost use Rattle.table_tool.specs.Grouping.{begins, row_at};
+ghost use Rattle.table_tool.specs.TableEntries.{begins, row_at};
 
 use key_decode::split_row;
 use key_types::Schema;

@@ -8,7 +8,8 @@ ghost use Rattle.key_decode.specs.Strings.{IsStringOf};
 ghost use Rattle.key_text.specs.Written.{equals_literal};
 ghost use Rattle.key_printing.specs.Texts.{IsTextOf};
 ghost use Rattle.data_file.specs.Listing.{FitsStaticType};
-ghost use Rattle.table_tool.specs.Grouping.{AreTableEntries, IsBehind};
+ghost use Rattle.flush_walk.specs.Given.{IsBehindKey};
+ghost use Rattle.table_tool.specs.TableEntries.{AreTableEntries};
 ghost use Rattle.table_tool.specs.Lines.{EndsLine};
 ghost use Rattle.table_tool.specs.Printed.{count_line, entry_line, entry_lines, rows_text};
 ghost use Rattle.table_files.specs.Standing.{static_entries};
@@ -123,7 +124,7 @@ fn put_entry(
     clustering: &[u8],
     value: &[u8],
 ) -> Result<(), NoMemory>
-    requires { IsBehind (columns_of schema.now) clustering.now value.now }
+    requires { IsBehindKey (columns_of schema.now) clustering.now value.now }
     ensures { OnOk result ((key : List ℕ) → IsTextOf (kinds_of schema.now.partition) key text.now
         → out.new ≡ out.old ++ entry_line (columns_of schema.now) (key ++ clustering.now, value.now)) }
 {

@@ -1,47 +1,41 @@
-use Rattle.std.proofs.Common.{◌≡◌, ◌<◌, ◌^◌, ◌++◌, length, rules, ◌∙◌, subst}
-use Rattle.std.specs.FinMap as map
-use Rattle.outside.specs.Files.{LeavesPrefix, bytes_of}
-use Rattle.outside.specs.Told.{WhereTold}
-use Rattle.outside.specs.declared.store.FileId.{FileId}
+use Rattle.std.proofs.Common.{rules, arith}
 use Rattle.key_types.specs.Columns.{columns_of}
-use Rattle.data_file.specs.Listing.{data_bytes}
-use Rattle.table_tool.specs.Grouping.{grouped}
-use Rattle.table_tool.proofs.Flushed.{data_stopped, failed_flush, flushed, nothing_flushed, schema_stopped}
+use Rattle.flush_walk.specs.Given.{entry_given, with_entry}
+use Rattle.table_tool.specs.Loading.{all_given}
+use Rattle.table_tool.proofs.Fed.{entries_split, failed, never_begun, stopped_begun, takes_split, whole_split}
 use Rattle.table_tool.proofs.flush.flush.Goals as goal
 
-pub returns-in_err-text-clause-written : goal.returns-in_err-text-clause-written
-returns-in_err-text-clause-written g c =
-    let f0 = g.K.Store.files c.args.store.now in
+pub returns-in_err-writer-clause-written : goal.returns-in_err-writer-clause-written
+returns-in_err-writer-clause-written g c =
     let columns = columns_of c.args.schema.now in
-    let bytes = data_bytes c.args.schema.now.static_value (grouped columns c.args.rows.now.entries) in
-    failed_flush columns f0 f0 c.from_residual.result bytes (search rules) (nothing_flushed columns f0 bytes)
+    let files = g.K.Store.files c.args.store.now in
+    failed c.from_residual.result (all_given columns files c.args.rows.now.entries) files (search rules) (never_begun columns c.args.rows.now.entries files c.requires.none)
 
-pub returns-in_err-counts-clause-written : goal.returns-in_err-counts-clause-written
-returns-in_err-counts-clause-written g c =
-    let f0 = g.K.Store.files c.args.store.now in
-    let f1 = g.K.Store.files c.write_entries.new.store in
+pub entries-preserved : goal.entries-preserved
+entries-preserved g c =
     let columns = columns_of c.args.schema.now in
-    let bytes = data_bytes c.args.schema.now.static_value (grouped columns c.args.rows.now.entries) in
-    failed_flush columns f0 f1 c.from_residual-in_err-counts.result bytes (search rules) (data_stopped columns f0 f1 bytes c.in_err-counts.ensures.written)
+    let held = c.entries.invariant in
+    let all = all_given columns (g.K.Store.files c.args.store.now) c.args.rows.now.entries in
+    let e = entry_given c.part.result.0.now c.part.result.1.now c.as_slice-in-entries.result.now in
+    let takes = takes_split columns held.given all c.in-Some.ensures.steps c.as_slice.ensures c.part.ensures.partition c.part.ensures.clustering c.as_slice-in-entries.ensures held.takes in
+    record {
+      given = with_entry held.given e;
+      writes = c.in_ok-add.ensures.added.writes held.given held.writes takes.0;
+      entries = (entries_split columns c.in-Some.ensures.steps held.entries).1;
+      takes = takes.1;
+      whole = whole_split columns held.given all c.in-Some.ensures.steps c.as_slice.ensures c.part.ensures.partition c.part.ensures.clustering c.as_slice-in-entries.ensures held.whole;
+      later = omega (arith, held.later, c.add.ensures.later);
+    }
 
-pub returns-in_err-append-clause-written : goal.returns-in_err-append-clause-written
-returns-in_err-append-clause-written g c =
-    let f0 = g.K.Store.files c.args.store.now in
-    let f1 = g.K.Store.files c.write_entries.new.store in
-    let f2 = g.K.Store.files c.append.new.self in
+pub returns-in_err-add-clause-written : goal.returns-in_err-add-clause-written
+returns-in_err-add-clause-written g c =
     let columns = columns_of c.args.schema.now in
-    let bytes = data_bytes c.args.schema.now.static_value (grouped columns c.args.rows.now.entries) in
-    failed_flush columns f0 f2 c.from_residual-in_err-append.result bytes (search rules)
-    (schema_stopped columns f0 f1 f2 bytes c.as_slice.result.now (c.as_slice.ensures ∙ c.in_ok-text.ensures) c.in_ok-counts.ensures.written
-    (subst (λ (f : FileId). WhereTold f1 f2 (λ ys zs. LeavesPrefix ys zs f c.as_slice.result.now)) c.schema_id.ensures c.in_err-append.ensures.bytes))
-
-pub returns-clause-written : goal.returns-clause-written
-returns-clause-written g c =
-    let f0 = g.K.Store.files c.args.store.now in
-    let f1 = g.K.Store.files c.write_entries.new.store in
-    let f2 = g.K.Store.files c.append.new.self in
-    let columns = columns_of c.args.schema.now in
-    let bytes = data_bytes c.args.schema.now.static_value (grouped columns c.args.rows.now.entries) in
-    flushed columns f0 f1 f2 bytes c.as_slice.result.now (c.as_slice.ensures ∙ c.in_ok-text.ensures) c.in_ok-counts.ensures.written
-    (subst (λ (f : FileId). WhereTold f1 f2 (λ ys zs. (zs ≡ map.insert ys f (bytes_of ys f ++ c.as_slice.result.now)) × (length (bytes_of ys f ++ c.as_slice.result.now) < 2 ^ 62)))
-    c.schema_id.ensures c.in_ok-append.ensures.bytes)
+    let held = c.entries.invariant in
+    let all = all_given columns (g.K.Store.files c.args.store.now) c.args.rows.now.entries in
+    let e = entry_given c.part.result.0.now c.part.result.1.now c.as_slice-in-entries.result.now in
+    let now = g.K.Store.files c.add.new.store in
+    let takes = takes_split columns held.given all c.in-Some.ensures.steps c.as_slice.ensures c.part.ensures.partition c.part.ensures.clustering c.as_slice-in-entries.ensures held.takes in
+    let left = c.in_err-add.ensures.added.begun held.given held.writes takes.0 in
+    failed c.from_residual-in_err-add.result all now (search rules)
+    (stopped_begun columns held.given all c.in-Some.ensures.steps c.as_slice.ensures c.part.ensures.partition c.part.ensures.clustering c.as_slice-in-entries.ensures c.entries.writer
+    (g.K.Store.files c.entries.store) now held.writes held.takes held.whole left)

@@ -1,7 +1,7 @@
 use Rattle.std.proofs.Common.{◌≡◌, List, ℕ, [], length, eqb-true, sym, subst, ◌∙◌}
 use Rattle.std.proofs.lemmas.List.{nil_from_length}
 use Rattle.key_types.specs.Columns.{columns_of}
-use Rattle.table_tool.specs.Grouping.{IsBehind}
+use Rattle.flush_walk.specs.Given.{IsBehindKey}
 use Rattle.table_tool.specs.Lines.{EndsLine}
 use Rattle.table_tool.proofs.PrintedLemmas.{ok_so}
 use Rattle.table_tool.proofs.printing.put_entry.Goals as goal
@@ -9,7 +9,7 @@ use Rattle.table_tool.proofs.printing.put_entry.Goals as goal
 pub end_static-requires : goal.end_static-requires
 end_static-requires c =
     let empty : c.args.clustering.now ≡ [] = nil_from_length c.args.clustering.now (eqb-true (length c.args.clustering.now) 0 (sym c.is_empty.ensures ∙ c.if-is_empty.true)) in
-    subst (λ (b : List ℕ). IsBehind (columns_of c.args.schema.now) b c.args.value.now) empty c.requires
+    subst (λ (b : List ℕ). IsBehindKey (columns_of c.args.schema.now) b c.args.value.now) empty c.requires
 
 pub returns-then-is_empty : goal.returns-then-is_empty
 returns-then-is_empty c =
