@@ -10,3 +10,6 @@ mod Adds
 mod Finish
 pub mod Final
 pub mod Onward
+pub mod Ascending
+pub mod PartsLemmas
+pub mod Fed

@@ -18,7 +18,8 @@ use Rattle.table_files.proofs.Blocked.{partitions_few}
 use Rattle.table_files.proofs.Numbering.{are_lists, data_few}
 use Rattle.flush_walk.specs.declared.current.CurrentPartition.{CurrentPartition}
 use Rattle.flush_walk.specs.declared.writer.TableWriter.{TableWriter}
-use Rattle.flush_walk.specs.Current.{begins_block, blocks_next, current_of, has_some, row_count, with_block_at, with_blocks}
+use Rattle.flush_walk.specs.Current.{begins_block, blocks_next, current_of, with_block_at, with_blocks}
+use Rattle.flush_walk.specs.Entries.{has_some, row_at}
 use Rattle.flush_walk.specs.Given.{Flushing, Given, begun_with, current_bytes, growing_of, last_clustering, last_start, listed, opened, opened_bytes, partitions_given, rows_given, start_among, start_behind, turned, with_row}
 use Rattle.flush_walk.specs.Growing.{Growing, Grows, Torn, with_bytes}
 use Rattle.flush_walk.specs.Writing.{Goes, IsHeld, WritesTable, has_blocks, rows_in_all}
@@ -73,11 +74,11 @@ rows_most (p ∷ ps) = omega (arith, rows_most ps, entries_parted_here p ps, row
 pub rows_few : (s : TableWriter) (w : Flushing) (f : Option Files) → WritesTable s w f → s.counts.rows ≤ 1000000
 rows_few s w f h = omega (arith, h.counts.rows, rows_most (partitions_given w), h.table.few)
 
-pub row_count_few : (c : List ℕ) → row_count c ≤ 1
-row_count_few [] = omega arith
-row_count_few (b ∷ c) = omega arith
+pub row_at_few : (c : List ℕ) → row_at c ≤ 1
+row_at_few [] = omega arith
+row_at_few (b ∷ c) = omega arith
 
-rows_counted : (c value : List ℕ) → length (rows_given c value) ≡ row_count c
+rows_counted : (c value : List ℕ) → length (rows_given c value) ≡ row_at c
 rows_counted [] value = refl
 rows_counted (b ∷ c) value = refl
 
@@ -89,7 +90,7 @@ goes_err (Err e) s w f bad torn = torn
 
 pub begun_writes : (s s' : TableWriter) (w : Flushing) (e : Given) (f f' : Option Files) (at n : ℕ) → WritesTable s (turned w) f
     → AreOfTable w.columns ((turned w).closed ++ begun_with e ∷ [])
-    → Grows s'.files (with_bytes (growing_of (turned w)) (opened_bytes s.static_value (begun_with e))) f' → at ≡ s.files.listing.position → n ≡ row_count e.clustering
+    → Grows s'.files (with_bytes (growing_of (turned w)) (opened_bytes s.static_value (begun_with e))) f' → at ≡ s.files.listing.position → n ≡ row_at e.clustering
     → s'.generation ≡ s.generation → s'.static_value ≡ s.static_value → s'.text ≡ s.text → s'.current ≡ current_of e.partition e.clustering at
     → s'.counts ≡ record { partitions = s.counts.partitions + 1; rows = s.counts.rows + n }
     → WritesTable s' (opened (turned w) (begun_with e)) f'

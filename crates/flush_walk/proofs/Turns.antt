@@ -12,7 +12,8 @@ use Rattle.row_index.specs.Writing.{block_of}
 use Rattle.table_files.specs.Blocks.{block_begun, block_start, blocks_among, blocks_behind, blocks_of, ends_block, rows_at}
 use Rattle.table_files.specs.Indexes.{all_indexed, all_numbered, number_at, placed, placed_at, row_indexed}
 use Rattle.table_files.proofs.Strings.{string_some}
-use Rattle.flush_walk.specs.Current.{has_some, number_turned, with_blocks}
+use Rattle.flush_walk.specs.Current.{number_turned, with_blocks}
+use Rattle.flush_walk.specs.Entries.{has_some}
 use Rattle.flush_walk.specs.Given.{Flushing, Given, begun_with, clustering_behind, growing_of, last_clustering, last_start, opened, opened_bytes, rows_given, start_among, start_behind, turned, with_row}
 use Rattle.flush_walk.specs.Growing.{with_bytes}
 use Rattle.flush_walk.proofs.Lists.{blocks_behind_more, clustering_with, data_parted, indexed_parted, numbered_parted, placed_parted, rows_bytes_more, start_behind_more}

@@ -7,12 +7,9 @@ use Rattle.row_index.specs.Writing.{block_of}
 use Rattle.table_files.specs.Blocks.{blocks_of, ends_block}
 use Rattle.table_files.specs.Indexes.{all_indexed, number_at, placed, placed_at}
 use Rattle.flush_walk.specs.declared.current.CurrentPartition.{CurrentPartition}
+use Rattle.flush_walk.specs.Entries.{has_some}
 use Rattle.flush_walk.specs.Given.{Flushing, growing_of, opened, turned}
 use Rattle.flush_walk.specs.Growing.{Growing}
-
-abbrev pub has_some : List ℕ → Bool
-has_some [] = false
-has_some (b ∷ bs) = true
 
 -- a row behind this offset begins a block: one stands before it, and ends the last block
 abbrev pub begins_block : CurrentPartition → ℕ → Bool
@@ -44,7 +41,3 @@ number_turned v p =
     let static = v.columns.static_value in
     number_at (placed_at static (length (data_bytes static v.closed)) p) (blocks_of static p)
     (length (row_file (all_indexed (placed static v.closed))))
-
--- how many rows an entry is: one, or none where it is a static value
-abbrev pub row_count : List ℕ → ℕ
-row_count clustering = if has_some clustering then 1 else 0

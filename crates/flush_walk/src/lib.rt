@@ -6,8 +6,12 @@
 
 mod current;
 mod growing;
+mod parts;
+mod shards;
 mod writer;
 
+pub use parts::{part, row_at};
+pub use shards::flush;
 pub use writer::TableWriter;
 
 #[cfg(test)]

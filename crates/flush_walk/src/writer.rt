@@ -9,13 +9,14 @@ ghost use Rattle.data_file.specs.Listing.{Partition};
 ghost use Rattle.row_index.specs.Entries.{AreBlocks};
 ghost use Rattle.row_index.specs.Writing.{GoesBehind, TakesBlock, block_of};
 ghost use Rattle.table_files.specs.Standing.{AreOfTable};
-ghost use Rattle.flush_walk.specs.Current.{begins_block, blocks_next, number_turned, row_count, rows_turned, with_block_at, with_blocks};
+ghost use Rattle.flush_walk.specs.Current.{begins_block, blocks_next, number_turned, rows_turned, with_block_at, with_blocks};
 ghost use Rattle.flush_walk.specs.Given.{Flushing, begun_with, entry_given, nothing_given, opened, partitions_given, turned, with_row};
 ghost use Rattle.flush_walk.specs.Growing.{Grows, Growing, Moves, NoneOf};
 ghost use Rattle.flush_walk.specs.Writing.{AddsEntryTo, FinishesTable, Goes, TakesNext, WritesTable};
 
 use crate::current::CurrentPartition;
 use crate::growing::GrowingFiles;
+use crate::parts::row_at;
 use bti_nodes::PackError;
 use data_file::Counts;
 use key_types::{ByteList, NoMemory, Schema, ValueType};
@@ -167,7 +168,7 @@ impl TableWriter {
             .begin(self.static_value, partition, clustering, value, store)?;
         self.current.begin(partition, clustering, at)?;
         self.counts.partitions += 1;
-        self.counts.rows += row_count(clustering);
+        self.counts.rows += row_at(clustering);
         Ok(())
     }
 
@@ -238,11 +239,4 @@ impl TableWriter {
         store.append(schema_id(generation), text.as_slice())?;
         Ok(counts)
     }
-}
-
-/// How many rows an entry is: one, or none where it is a static value.
-fn row_count(clustering: &[u8]) -> u64
-    ensures { result ≡ row_count clustering.now }
-{
-    u64::from(!clustering.is_empty())
 }

@@ -10,10 +10,10 @@ use Rattle.key_types.specs.Table.{string_cmp}
 use Rattle.trie_rule.specs.Seats.{KeptWords}
 use Rattle.shard_table.specs.Shards.{is_reached, shard_index, bound_at, BoundsAscend, LiesIn, KeysLie, ShardsAscend, LawShardOf}
 
-same : (x y : List ℕ) → string_cmp x y ≡ Equal → x ≡ y
+pub same : (x y : List ℕ) → string_cmp x y ≡ Equal → x ≡ y
 same x y e = map_of.slice_cmp-IsAntisymmetric map_of.nat_cmp-IsAntisymmetric x y e
 
-turned : (x y : List ℕ) (r : Ordering) → string_cmp y x ≡ r → string_cmp x y ≡ ordering_reverse r
+pub turned : (x y : List ℕ) (r : Ordering) → string_cmp y x ≡ r → string_cmp x y ≡ ordering_reverse r
 turned x y r e = nat_list_cmp_total.antisymm x y ∙ ap ordering_reverse e
 
 less_then_le : (x y z : List ℕ) → string_cmp x y ≡ Less → is_le (string_cmp y z) ≡ true → string_cmp x z ≡ Less
@@ -24,7 +24,7 @@ less_then_le x y z l h = by (string_cmp y z) refl
     by Equal e = ap (string_cmp x) (sym (same y z e)) ∙ l
     by Greater e = let bad : is_le (string_cmp y z) ≡ false = ap is_le e in absurd (cc)
 
-count_more : {X : Type 0} (p : X → Bool) (x : X) (xs : List X) → count_by p (x ∷ xs) ≡ cond (p x) 1 0 + count_by p xs
+pub count_more : {X : Type 0} (p : X → Bool) (x : X) (xs : List X) → count_by p (x ∷ xs) ≡ cond (p x) 1 0 + count_by p xs
 count_more p x xs = sum_by-cons (λ (y : _). cond (p y) 1 0) x xs
 
 -- ---- bounds
@@ -88,7 +88,7 @@ shard_lies (b ∷ bounds) string up = by (is_reached string b) refl (shard_lies 
     by true e lies = let one : suc (shard_index bounds string) ≡ shard_index (b ∷ bounds) string = omega (arith, index_is true e) in subst (λ (k : ℕ). LiesIn (b ∷ bounds) k string) one (lies_later b string bounds (shard_index bounds string) e lies)
     by false e lies = let none : 0 ≡ shard_index (b ∷ bounds) string = omega (arith, index_is false e, none_reached bounds string (all_above e)) in subst (λ (k : ℕ). LiesIn (b ∷ bounds) k string) none (lies_first b string bounds e)
 
-get_less : {A : Type 0} (xs : List A) (i : ℕ) (x : A) → slice_get xs i ≡ Some x → i < length xs
+pub get_less : {A : Type 0} (xs : List A) (i : ℕ) (x : A) → slice_get xs i ≡ Some x → i < length xs
 get_less [] i x e = absurd (cc)
 get_less (y ∷ ys) zero x e = omega arith
 get_less (y ∷ ys) (suc i) x e = let h = get_less ys i x e in omega arith

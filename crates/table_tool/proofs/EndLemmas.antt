@@ -19,7 +19,7 @@ use Rattle.table_tool.specs.Outcome.{AppendsPrefix, IsOrNoMemory, SaysRefusal, S
 use Rattle.table_tool.specs.Printed.{count_line, entry_lines, rows_text}
 use Rattle.table_tool.specs.Scanned.{Holding, IsEither, IsPart, PrintsFiles, Scanned}
 use Rattle.table_tool.specs.Scanning.{EndsScan, IsShown, IsUnfinished, ScanEnds, ScanPrints, ScanWrites, Shown, all, cut, nothing, part, shown_text, IsOfScan}
-use Rattle.table_tool.specs.Entries.{row_count}
+use Rattle.flush_walk.specs.Entries.{row_count}
 use Rattle.table_tool.specs.Steps.{inside_of}
 use Rattle.key_types.specs.Columns.{Columns}
 use Rattle.table_files.specs.Walk.{Passes, Stops, Walks}

@@ -29,10 +29,11 @@ use Rattle.key_types.specs.Kinds.{Vals}
 use Rattle.byte_comparable.specs.Order.{Key, KeyFits, within_string}
 use Rattle.script_text.specs.Laws.{AreOfKeys}
 use Rattle.script_text.proofs.Ascending.{entries_ascend}
-use Rattle.table_tool.specs.Entries.{is_row, row_count}
+use Rattle.flush_walk.specs.Entries.{is_row, row_count}
 use Rattle.table_tool.specs.Printed.{AreKeyLines, IsTableText, entry_line, entry_lines, key_line, rows_of_key, rows_text}
 use Rattle.table_tool.proofs.Told.{told_so}
-use Rattle.table_tool.proofs.PrintedLemmas.{is_row_entry, is_static_entry, row_named, some_key, static_named}
+use Rattle.table_tool.proofs.PrintedLemmas.{is_row_entry, is_static_entry, row_named, static_named}
+use Rattle.flush_walk.proofs.PartsLemmas.{some_key}
 use Rattle.table_tool.specs.Rows.{rows_of, table_put}
 use Rattle.table_tool.specs.Scanning.{ScanEnds, ScanPrints}
 

@@ -14,12 +14,13 @@ use Rattle.flush_walk.specs.Given.{Flushing, TakesEntries, map_entry, nothing_gi
 use Rattle.flush_walk.specs.Writing.{AddsFour, AreCounts, BeginsFiles, StandForGiven, files_of_table}
 use Rattle.flush_walk.proofs.Final.{added_have, all_begun}
 use Rattle.flush_walk.proofs.Onward.{AreTaken, all_taken, same_all}
-use Rattle.table_tool.specs.Entries.{row_count}
+use Rattle.flush_walk.specs.Entries.{row_count}
 use Rattle.table_tool.specs.First.{first_generation}
-use Rattle.table_tool.specs.Loading.{ArePartitionsOf, Begun, ChangesFiles, Loaded, all_given, ok_line}
+use Rattle.flush_walk.specs.Flushed.{all_given}
+use Rattle.table_tool.specs.Loading.{ArePartitionsOf, Begun, ChangesFiles, Loaded, ok_line}
 use Rattle.table_tool.specs.Rows.{rows_of, table_put}
-use Rattle.table_tool.specs.TableEntries.{AreTableEntries, given_in}
-use Rattle.table_tool.proofs.Fed.{count_all, entries_back, entries_taken, no_table}
+use Rattle.flush_walk.specs.TableEntries.{AreTableEntries, given_in}
+use Rattle.flush_walk.proofs.Fed.{count_all, entries_back, entries_taken, no_table}
 use Rattle.table_tool.proofs.RowLemmas.{rows_sorted}
 use Rattle.table_tool.proofs.Told.{told_none, told_so}
 
@@ -31,20 +32,20 @@ sorted puts rows is = subst (λ (es : List Entry). T (is_sorted string_cmp es)) 
 
 pub rows_taken : (columns : Columns) (puts : List Put) (rows : List Entry) (files : Option Files) → rows ≡ rows_of puts → AreTableEntries columns rows → length rows ≤ 1000000
     → TakesEntries (nothing_given first_generation columns files) (map (given_in columns) rows)
-rows_taken columns puts rows files is are few = entries_taken columns files rows are (sorted puts rows is) few
+rows_taken columns puts rows files is are few = entries_taken first_generation columns files rows are (sorted puts rows is) few
 
 module _ (columns : Columns) (puts : List Put) (rows : List Entry) (f0 f1 : Option Files) (is : rows ≡ rows_of puts) (are : AreTableEntries columns rows) (few : length rows ≤ 1000000) where
   abbrev all : Flushing
-  all = all_given columns f0 rows
+  all = all_given first_generation columns f0 rows
 
   abbrev partitions : List Partition
   partitions = partitions_given all
 
   given : AreTaken (nothing_given first_generation columns f0) all (map map_entry (map (given_in columns) rows))
-  given = all_taken (nothing_given first_generation columns f0) (map (given_in columns) rows) (rows_taken columns puts rows f0 is are few) (no_table columns)
+  given = all_taken (nothing_given first_generation columns f0) (map (given_in columns) rows) (rows_taken columns puts rows f0 is are few) (no_table first_generation columns)
 
   pub are_of : ArePartitionsOf columns partitions (rows_of puts)
-  are_of = record { table = given.table; same = given.entries ∙ entries_back columns rows are ∙ is }
+  are_of = record { table = given.table; same = given.entries ∙ entries_back first_generation columns rows are ∙ is }
 
   generation_is : all.generation ≡ first_generation
   generation_is = (same_all (nothing_given first_generation columns f0) (map (given_in columns) rows)).generation
@@ -94,7 +95,7 @@ module _ (columns : Columns) (puts : List Put) (rows : List Entry) (f0 f1 : Opti
       → AreCounts (record { partitions = partitions_counted; rows = rows_counted }) partitions → Loaded columns puts f0 f1 line
   loaded line put_count rows_counted partitions_counted have puts_is line_is adds stand counts =
       let rows_are : rows_counted ≡ row_count columns (rows_of puts) =
-      counts.rows ∙ sym (count_all columns partitions are_of.table.are) ∙ ap (row_count columns) are_of.same in
+      counts.rows ∙ sym (count_all first_generation columns partitions are_of.table.are) ∙ ap (row_count columns) are_of.same in
       record {
         partitions = partitions;
         are = are_of;

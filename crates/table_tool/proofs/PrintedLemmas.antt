@@ -12,8 +12,8 @@ use Rattle.key_decode.specs.Reading.{values_at}
 use Rattle.key_decode.proofs.Known.{read_key}
 use Rattle.key_text.specs.Written.{equals_literal}
 use Rattle.key_printing.specs.Texts.{IsTextOf, PutsText}
-use Rattle.table_tool.specs.Entries.{has_some, is_row, rest_behind, row_count}
-use Rattle.table_tool.specs.TableEntries.{row_at}
+use Rattle.flush_walk.specs.Entries.{has_some, is_row, rest_behind, row_at, row_count}
+use Rattle.flush_walk.proofs.PartsLemmas.{some_key}
 use Rattle.table_tool.specs.Lines.{EndsLine}
 use Rattle.table_tool.specs.Printed.{entry_line, entry_lines, line_behind, line_by, row_by, row_line, static_by, static_line}
 use Rattle.table_files.specs.Standing.{static_entries}
@@ -21,13 +21,6 @@ use Rattle.table_files.specs.Standing.{static_entries}
 pub ok_so : {T E : Type 0} (r : Result T E) (P Q : Type 0) → (P → Q) → OnOk r P → OnOk r Q
 ok_so (Ok x) P Q f p = f p
 ok_so (Err e) P Q f p = tt
-
--- a key's string is never empty
-pub some_key : (ts : Kinds) (vs : Vals) → EachFits ts vs → has_some (key_string ts vs) ≡ true
-some_key end none fits = refl
-some_key end (and v vs) fits = absurd fits
-some_key (more t ts) none fits = absurd fits
-some_key (more t ts) (and v vs) fits = refl
 
 pub row_few : (clustering : List ℕ) → row_at clustering ≤ 1
 row_few [] = omega arith

@@ -20,13 +20,13 @@ use Rattle.script_text.specs.declared.script.Script.{Script}
 use Rattle.script_text.specs.Script.{entries_of, entry_of_put, puts_of}
 use Rattle.script_text.specs.Laws.{ArePuts, IsAccepted, IsKeyString, IsSchemaPut, IsRowPut, IsStaticPut}
 use Rattle.script_text.proofs.Accepted.{accepted_script}
-use Rattle.table_tool.specs.Entries.{clustering_in}
+use Rattle.flush_walk.specs.Entries.{clustering_in}
 use Rattle.flush_walk.specs.Given.{IsBehindKey}
-use Rattle.table_tool.specs.TableEntries.{AreTableEntries, IsTableEntry}
+use Rattle.flush_walk.specs.TableEntries.{AreTableEntries, IsTableEntry}
 use Rattle.table_tool.specs.Input.{IsSpelled}
 use Rattle.table_tool.specs.Rows.{rows_after, rows_of}
 use Rattle.table_tool.proofs.MapLemmas.{rows_after_is}
-use Rattle.table_tool.proofs.PartsLemmas.{parted, some_string}
+use Rattle.flush_walk.proofs.PartsLemmas.{parted, some_string}
 
 -- ---- they are entries of a table
 

@@ -21,12 +21,12 @@ use Rattle.data_file.proofs.Found.{no_head_on}
 use Rattle.table_tool.specs.declared.walk.Walk.{Walk}
 use Rattle.table_tool.specs.declared.walk.Met.{Met}
 use Rattle.table_tool.specs.declared.walk.Met.TheVariants.{Stop}
-use Rattle.table_tool.specs.Entries.{is_row, row_count}
+use Rattle.flush_walk.specs.Entries.{is_row, row_count}
 use Rattle.table_tool.specs.Printed.{entry_line, entry_lines}
 use Rattle.table_tool.specs.Window.{Unread, Continues, HasEnough, enough}
 use Rattle.table_files.specs.Walk.{Passes, Stops}
 use Rattle.table_tool.specs.Steps.{Halts, IsStaticPartBehind, Moves, NoStaticPartBehind, PrintsEntries, StepIs, inside_of}
-use Rattle.table_tool.proofs.PartsLemmas.{some_string}
+use Rattle.flush_walk.proofs.PartsLemmas.{some_string}
 use Rattle.table_tool.proofs.PrintedLemmas.{static_part_count, is_row_behind}
 use Rattle.table_tool.proofs.WalkLemmas.{bad_static_part_stops, bad_head_stops, bad_row_stops, end_passes, file_end_stops, head_passes, row_passes}
 use Rattle.table_files.specs.Standing.{static_entries}

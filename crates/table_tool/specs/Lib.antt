@@ -1,5 +1,4 @@
 pub mod Request
-pub mod Entries
 pub mod First
 pub mod Rows
 pub mod Window
@@ -13,7 +12,6 @@ pub mod Listing
 pub mod Steps
 pub mod Scanning
 pub mod Scanned
-pub mod TableEntries
 pub mod Loading
 pub mod Keys
 pub mod Run

@@ -6,7 +6,6 @@ use Rattle.outside.specs.Files.{Files}
 use Rattle.key_types.specs.Columns.{Columns}
 use Rattle.key_types.specs.Table.{Entry}
 use Rattle.data_file.specs.Listing.{Partition}
-use Rattle.data_file.specs.declared.writer.Counts.{Counts}
 use Rattle.script_text.specs.Puts.{Put}
 use Rattle.script_text.specs.declared.script.Script.{Script}
 use Rattle.script_text.specs.declared.script.ScriptError.{ScriptError}
@@ -14,15 +13,13 @@ use Rattle.script_text.specs.declared.script.ScriptError.TheVariants as script_e
 use Rattle.script_text.specs.Script.{script_of, puts_of}
 use Rattle.table_files.specs.Standing.{AreOfTable, StandFor, entries_in}
 use Rattle.table_files.specs.There.{any_there}
-use Rattle.flush_walk.specs.Given.{Flushing, nothing_given, partitions_given, with_entries}
 use Rattle.flush_walk.specs.Growing.{FourFiles, HaveBytes}
-use Rattle.flush_walk.specs.Writing.{AddsFour, AreBegun, AreCounts, BeginsFiles, StandForGiven, files_of_table}
+use Rattle.flush_walk.specs.Entries.{row_count}
+use Rattle.flush_walk.specs.Writing.{AddsFour, AreBegun, files_of_table}
 use Rattle.table_tool.specs.declared.status.Status.{Status}
 use Rattle.table_tool.specs.declared.status.Status.TheVariants as status
-use Rattle.table_tool.specs.Entries.{row_count}
 use Rattle.table_tool.specs.First.{first_generation}
 use Rattle.table_tool.specs.Rows.{rows_of, table_put}
-use Rattle.table_tool.specs.TableEntries.{given_in}
 use Rattle.table_tool.specs.Outcome.{IsOrNoMemory, PrintsText, WritesRefusal, ended}
 use Rattle.table_tool.specs.Outside.{FaultRose, KeepsSource, Outside, SinkFails, SourceFails, StoreFails}
 
@@ -168,17 +165,6 @@ pub record LoadEnds (columns : Columns) (before after : Outside) (result : Statu
   pub refusal : WritesRefusal before after result
 
 -- ---- the parts of `load`: only private contracts cite what follows
-
--- what the writer of the files was given when all entries are
-abbrev pub all_given : Columns → Option Files → List Entry → Flushing
-all_given columns files entries = with_entries (nothing_given first_generation columns files) (map (given_in columns) entries)
-
--- at Ok the files of all that was given were added, they stand for it, and the counts are its; after an error a part of them stands
-pub record Flushes (w : Flushing) (after : Option Files) {E : Type 0} (result : Result Counts E) : Type 0 where
-  pub adds : OnOk result (WhereTold w.before after (AddsFour w.generation (files_of_table w.columns (partitions_given w))))
-  pub stand : OnOk result (IfSome after (StandForGiven w))
-  pub counts : IfOk result (λ counts. AreCounts counts (partitions_given w))
-  pub begun : OnErr result (BeginsFiles w (partitions_given w) after)
 
 -- the statuses that end `load` before its line is printed
 abbrev pub StopsLoad : Status → Type 0

@@ -9,7 +9,7 @@ use Rattle.byte_comparable.specs.Encoding.{key_string}
 use Rattle.byte_comparable.specs.Order.{Key, KeyFits, string_of_key}
 use Rattle.key_decode.specs.Reading.{values_at}
 use Rattle.key_text.specs.Written.{row_literal, static_literal}
-use Rattle.table_tool.specs.Entries.{is_row, row_count}
+use Rattle.flush_walk.specs.Entries.{is_row, row_count}
 
 -- ---- lines
 

@@ -14,7 +14,7 @@ use Rattle.table_tool.specs.declared.status.Status.{Status}
 use Rattle.table_tool.specs.declared.status.Status.TheVariants as status
 use Rattle.table_tool.specs.Outcome.{AppendsPrefix}
 use Rattle.table_tool.specs.Printed.{entry_lines}
-use Rattle.table_tool.specs.Entries.{row_count}
+use Rattle.flush_walk.specs.Entries.{row_count}
 use Rattle.table_tool.specs.First.{first_generation}
 use Rattle.table_tool.specs.Scanning.{EndsScan, IsShown, ScanWrites, Shown, shown_text}
 use Rattle.table_files.specs.Names.{data_id}

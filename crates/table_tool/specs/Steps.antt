@@ -9,7 +9,7 @@ use Rattle.data_file.specs.Reading.{NoStaticPart}
 use Rattle.table_tool.specs.declared.walk.Walk.{Walk}
 use Rattle.table_tool.specs.declared.walk.Met.{Met}
 use Rattle.table_tool.specs.declared.walk.Met.TheVariants.{Row, Border, Stop}
-use Rattle.table_tool.specs.Entries.{row_count}
+use Rattle.flush_walk.specs.Entries.{row_count}
 use Rattle.table_tool.specs.Printed.{entry_lines}
 use Rattle.table_tool.specs.Window.{Continues}
 use Rattle.table_files.specs.Walk.{Passes, Stops}

@@ -5,15 +5,14 @@ ghost use Rattle.key_types.specs.Columns.{columns_of};
 ghost use Rattle.flush_walk.specs.Given.{TakesEntries, nothing_given};
 ghost use Rattle.flush_walk.specs.Growing.{NoneOf};
 ghost use Rattle.table_tool.specs.First.{first_generation};
-ghost use Rattle.table_tool.specs.Loading.{Flushes, all_given};
-ghost use Rattle.table_tool.specs.TableEntries.{AreTableEntries, given_in};
+ghost use Rattle.flush_walk.specs.Flushed.{Flushes, all_given};
+ghost use Rattle.flush_walk.specs.TableEntries.{AreTableEntries, given_in};
 
 use crate::first::FIRST_GENERATION;
-use crate::parts::part;
 use crate::table::Rows;
 use bti_nodes::PackError;
 use data_file::Counts;
-use flush_walk::TableWriter;
+use flush_walk::{TableWriter, part};
 use key_types::Schema;
 use outside::Store;
 use std::alloc::Global;
@@ -29,7 +28,7 @@ pub fn flush<K: Store>(
     requires takes { TakesEntries (nothing_given first_generation (columns_of schema.now) (K.files store.old))
         (map (given_in (columns_of schema.now)) rows.now.entries) }
     requires none { NoneOf first_generation (K.files store.old) }
-    ensures written { Flushes (all_given (columns_of schema.now) (K.files store.old) rows.now.entries) (K.files store.new) result }
+    ensures written { Flushes (all_given first_generation (columns_of schema.now) (K.files store.old) rows.now.entries) (K.files store.new) result }
     ensures later { K.faults store.old ≤ K.faults store.new }
     ensures fault { result ≡ Err PackError.StoreFault → Rose (K.faults store.old) (K.faults store.new) }
 {

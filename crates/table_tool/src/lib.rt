@@ -10,7 +10,6 @@ mod laws;
 mod list;
 mod load;
 mod numbers;
-mod parts;
 mod printing;
 mod request;
 mod saying;

@@ -9,18 +9,28 @@ ghost use Rattle.key_text.specs.Written.{equals_literal};
 ghost use Rattle.key_printing.specs.Texts.{IsTextOf};
 ghost use Rattle.data_file.specs.Listing.{FitsStaticType};
 ghost use Rattle.flush_walk.specs.Given.{IsBehindKey};
-ghost use Rattle.table_tool.specs.TableEntries.{AreTableEntries};
-ghost use Rattle.table_tool.specs.Lines.{EndsLine};
+ghost use Rattle.flush_walk.specs.TableEntries.{AreTableEntries};
+ghost use Rattle.table_tool.specs.Lines.{EndsLine, begins};
 ghost use Rattle.table_tool.specs.Printed.{count_line, entry_line, entry_lines, rows_text};
 ghost use Rattle.table_files.specs.Standing.{static_entries};
 
 use crate::numbers::put_number;
-use crate::parts::{begins, part, row_at};
 use crate::table::Rows;
+use flush_walk::{part, row_at};
 use key_printing::write_string;
 use key_text::write_equals;
 use key_types::{ByteList, NoMemory, Schema, ValueType};
 use std::alloc::Global;
+
+/// Whether an entry of this partition begins it, behind an entry of the open one.
+fn begins(last: Option<&[u8]>, partition: &[u8]) -> bool
+    ensures { result ≡ begins (option_copied last.entry) partition.now }
+{
+    match last {
+        Some(before) => before != partition,
+        None => true,
+    }
+}
 
 /// Ends the line of a row, which so far is the text of its partition's components.
 fn end_row(

@@ -2,8 +2,9 @@ use Rattle.std.proofs.Common.{◌≡◌, ◌≤◌, map}
 use Rattle.key_types.specs.Columns.{columns_of}
 use Rattle.flush_walk.specs.Given.{Flushing, TakesEntries, with_entries}
 use Rattle.flush_walk.specs.Writing.{WritesTable}
-use Rattle.table_tool.specs.Loading.{all_given}
-use Rattle.table_tool.specs.TableEntries.{AreTableEntries, given_in}
+use Rattle.flush_walk.specs.Flushed.{all_given}
+use Rattle.table_tool.specs.First.{first_generation}
+use Rattle.flush_walk.specs.TableEntries.{AreTableEntries, given_in}
 use Rattle.table_tool.proofs.flush.flush.Given as goal
 
 abbrev pub invariant-entries : goal.invariant-entries
@@ -16,6 +17,6 @@ invariant-entries g l =
       writes : WritesTable l.writer given (files l.store);
       entries : AreTableEntries columns l.key-iterator;
       takes : TakesEntries given left;
-      whole : with_entries given left ≡ all_given columns (files l.initial.store) l.rows.entries;
+      whole : with_entries given left ≡ all_given first_generation columns (files l.initial.store) l.rows.entries;
       later : g.K.Store.faults l.initial.store ≤ g.K.Store.faults l.store;
     }

@@ -1,6 +1,7 @@
 use Rattle.std.proofs.Common.{◌∙◌}
 use Rattle.byte_comparable.specs.Encoding.{key_string}
-use Rattle.table_tool.proofs.PrintedLemmas.{is_row_entry, is_static_entry, row_named, some_key, static_line_named}
+use Rattle.table_tool.proofs.PrintedLemmas.{is_row_entry, is_static_entry, row_named, static_line_named}
+use Rattle.flush_walk.proofs.PartsLemmas.{some_key}
 use Rattle.table_tool.proofs.laws.law_keys_are_named.Goals as goal
 
 pub returns : goal.returns

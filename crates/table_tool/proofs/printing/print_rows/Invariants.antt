@@ -3,8 +3,8 @@ use Rattle.std.specs.Prelude.{IfSome}
 use Rattle.std.specs.Option.{option_copied}
 use Rattle.key_types.specs.Columns.{columns_of}
 use Rattle.key_printing.specs.Texts.{IsTextOf}
-use Rattle.table_tool.specs.Entries.{row_count}
-use Rattle.table_tool.specs.TableEntries.{AreTableEntries}
+use Rattle.flush_walk.specs.Entries.{row_count}
+use Rattle.flush_walk.specs.TableEntries.{AreTableEntries}
 use Rattle.table_tool.specs.Printed.{entry_lines}
 use Rattle.table_tool.proofs.printing.print_rows.Given as goal
 

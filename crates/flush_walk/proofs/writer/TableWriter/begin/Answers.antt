@@ -1,7 +1,7 @@
 use Rattle.std.proofs.Common.{refl, arith}
 use Rattle.flush_walk.specs.Given.{entry_given}
 use Rattle.flush_walk.proofs.Moves.{grows_torn}
-use Rattle.flush_walk.proofs.Steps.{begun_torn, begun_writes, goes_err, counts_few, place_few, row_count_few, rows_few}
+use Rattle.flush_walk.proofs.Steps.{begun_torn, begun_writes, goes_err, counts_few, place_few, row_at_few, rows_few}
 use Rattle.flush_walk.proofs.writer.TableWriter.begin.Goals as goal
 
 pub begin-requires-clause-place : goal.begin-requires-clause-place
@@ -13,7 +13,7 @@ pub overflow_add-self : goal.overflow_add-self
 overflow_add-self g c = omega (arith, counts_few c.args.self.now _ _ c.requires.given.1)
 
 pub overflow_add-self-2 : goal.overflow_add-self-2
-overflow_add-self-2 g c = omega (arith, rows_few c.args.self.now _ _ c.requires.given.1, c.row_count.ensures, row_count_few c.args.clustering.now)
+overflow_add-self-2 g c = omega (arith, rows_few c.args.self.now _ _ c.requires.given.1, c.row_at.ensures, row_at_few c.args.clustering.now)
 
 pub returns-in_err-begin-clause-gone : goal.returns-in_err-begin-clause-gone
 returns-in_err-begin-clause-gone g c =
@@ -24,5 +24,5 @@ returns-in_err-begin-clause-gone g c =
 pub returns-clause-gone : goal.returns-clause-gone
 returns-clause-gone g c =
     λ w h table.
-    begun_writes c.args.self.now _ w (entry_given c.args.partition.now c.args.clustering.now c.args.value.now) _ _ c.in_ok-at.at c.row_count.result h table
-    (c.in_ok-at.ensures.moved _ h.grows) c.in_ok-at.ensures.at c.row_count.ensures refl refl refl c.in_ok-begin.ensures refl
+    begun_writes c.args.self.now _ w (entry_given c.args.partition.now c.args.clustering.now c.args.value.now) _ _ c.in_ok-at.at c.row_at.result h table
+    (c.in_ok-at.ensures.moved _ h.grows) c.in_ok-at.ensures.at c.row_at.ensures refl refl refl c.in_ok-begin.ensures refl

@@ -18,16 +18,17 @@ use Rattle.table_files.specs.Names.{data_id, partitions_id, rows_id, schema_id}
 use Rattle.table_files.specs.Standing.{AreOfTable, entries_in, row_entries, static_entries}
 use Rattle.table_files.specs.There.{any_there, file_there}
 use Rattle.flush_walk.specs.declared.writer.TableWriter.{TableWriter}
-use Rattle.flush_walk.specs.Given.{Flushing, Given, IsAboveLast, TakesEntries, TakesEntry, entry_given, last_clustering, map_entry, nothing_given, partitions_given, with_entries, with_entry}
+use Rattle.flush_walk.specs.Given.{Flushing, Given, IsAboveLast, TakesEntries, TakesEntry, entry_given, growing_of, last_clustering, map_entry, nothing_given, partitions_given, with_entries, with_entry}
 use Rattle.flush_walk.specs.Growing.{FourFiles, HaveBytes, NoneOf}
 use Rattle.flush_walk.specs.Writing.{AreBegun, BeginsFiles, FinishesTable, LeavesBegun, WritesTable, files_of_table, rows_in_all}
+use Rattle.flush_walk.proofs.Moves.{grows_torn}
+use Rattle.flush_walk.proofs.Prefixes.{torn_begun}
 use Rattle.flush_walk.proofs.Onward.{begins_same, is_last, left_begun, same_all, same_next, taken, taken_on}
-use Rattle.table_tool.specs.Entries.{clustering_in, has_some, partition_in, row_count}
-use Rattle.table_tool.specs.First.{first_generation}
-use Rattle.table_tool.specs.Loading.{Flushes, all_given}
-use Rattle.table_tool.specs.TableEntries.{AreTableEntries, IsTableEntry, given_in}
-use Rattle.table_tool.proofs.Ascending.{partition_less, row_less}
-use Rattle.table_tool.proofs.PartsLemmas.{row_part, some_string}
+use Rattle.flush_walk.specs.Entries.{clustering_in, has_some, partition_in, row_count}
+use Rattle.flush_walk.specs.Flushed.{Flushes, all_given}
+use Rattle.flush_walk.specs.TableEntries.{AreTableEntries, IsTableEntry, given_in}
+use Rattle.flush_walk.proofs.Ascending.{partition_less, row_less}
+use Rattle.flush_walk.proofs.PartsLemmas.{row_part, some_string}
 
 both : (a b : Bool) → T (a && b) → T a × T b
 both true b t = (tt, t)
@@ -48,7 +49,7 @@ rest_sorted e es sorted = (both (below_all string_cmp e.0 es) (is_sorted string_
 
 -- ---- they may be given, one behind the other
 
-module _ (columns : Columns) where
+module _ (generation : ℕ) (columns : Columns) where
   -- the first of them is above the last that was given
   abbrev IsNext : Flushing → List Entry → Type 0
   IsNext w [] = Unit {0}
@@ -97,14 +98,14 @@ module _ (columns : Columns) where
   pub no_table : AreOfTable columns []
   no_table = record { are = tt; ascend = tt; rows = tt; few = omega arith }
 
-  first_is : (files : Option Files) (es : List Entry) → IsNext (nothing_given first_generation columns files) es
+  first_is : (files : Option Files) (es : List Entry) → IsNext (nothing_given generation columns files) es
   first_is files [] = tt
   first_is files (e ∷ es) = refl
 
   pub entries_taken : (files : Option Files) (es : List Entry) → AreTableEntries columns es → T (is_sorted string_cmp es) → length es ≤ 1000000
-      → TakesEntries (nothing_given first_generation columns files) (map (given_in columns) es)
+      → TakesEntries (nothing_given generation columns files) (map (given_in columns) es)
   entries_taken files es are sorted few =
-      takes_all (nothing_given first_generation columns files) es refl are sorted (first_is files es) (omega (arith, few)) no_table
+      takes_all (nothing_given generation columns files) es refl are sorted (first_is files es) (omega (arith, few)) no_table
 
   -- ---- the entries of what was given
 
@@ -142,6 +143,13 @@ module _ (columns : Columns) where
         subst (λ (v : Flushing). BeginsFiles v (partitions_given v) f1) (whole_split whole)
         (left_begun (with_entry w e) (map (given_in columns) rest) f1 parts.1 (taken_on w e parts.0 writes.table) left)
 
+  -- what stands where no entry more was given
+  pub held_begun : (w all : Flushing) (es : List Entry) (s : TableWriter) (f : Option Files) → WritesTable s w f → TakesEntries w (map (given_in columns) es)
+      → with_entries w (map (given_in columns) es) ≡ all → BeginsFiles all (partitions_given all) f
+  held_begun w all es s f writes takes whole =
+      subst (λ (v : Flushing). BeginsFiles v (partitions_given v) f) whole
+      (left_begun w (map (given_in columns) es) f takes writes.table (torn_begun w f (grows_torn s.files (growing_of w) f writes.grows)))
+
   pub entries_split : {es rest : List Entry} {key value : List ℕ} → es ≡ (key, value) ∷ rest → AreTableEntries columns es → IsTableEntry columns (key, value) × AreTableEntries columns rest
   entries_split is h = subst (AreTableEntries columns) is h
 
@@ -161,19 +169,19 @@ module _ (columns : Columns) where
   abbrev none : FourFiles
   none = record { listing = []; rows = []; partitions = []; schema = [] }
 
-  have_none : (m : Files) → any_there first_generation m ≡ false → HaveBytes first_generation none m m
+  have_none : (m : Files) → any_there generation m ≡ false → HaveBytes generation none m m
   have_none m e =
-      let listing = file_there m (data_id first_generation) in
-      let index = file_there m (partitions_id first_generation) in
-      let rows = file_there m (rows_id first_generation) in
-      let a = neither (listing || index || rows) (file_there m (schema_id first_generation)) e in
+      let listing = file_there m (data_id generation) in
+      let index = file_there m (partitions_id generation) in
+      let rows = file_there m (rows_id generation) in
+      let a = neither (listing || index || rows) (file_there m (schema_id generation)) e in
       let b = neither (listing || index) rows a.0 in
       let c = neither listing index b.0 in
       record {
-        listing = no_bytes (finite.get m (data_id first_generation)) c.0;
-        rows = no_bytes (finite.get m (rows_id first_generation)) b.1;
-        partitions = no_bytes (finite.get m (partitions_id first_generation)) c.1;
-        schema = no_bytes (finite.get m (schema_id first_generation)) a.1;
+        listing = no_bytes (finite.get m (data_id generation)) c.0;
+        rows = no_bytes (finite.get m (rows_id generation)) b.1;
+        partitions = no_bytes (finite.get m (partitions_id generation)) c.1;
+        schema = no_bytes (finite.get m (schema_id generation)) a.1;
         others = λ file apart. refl;
       }
 
@@ -186,15 +194,15 @@ module _ (columns : Columns) where
     last = λ some. absurd (some refl);
   }
 
-  nothing_begun : (ps : List Partition) (files : Option Files) → NoneOf first_generation files → BeginsFiles (nothing_given first_generation columns files) ps files
+  nothing_begun : (ps : List Partition) (files : Option Files) → NoneOf generation files → BeginsFiles (nothing_given generation columns files) ps files
   nothing_begun ps None h = tt
   nothing_begun ps (Some m) h = (none, none_begun (files_of_table columns ps), have_none m h)
 
-  pub never_begun : (es : List Entry) (files : Option Files) → NoneOf first_generation files → BeginsFiles (all_given columns files es) (partitions_given (all_given columns files es)) files
+  pub never_begun : (es : List Entry) (files : Option Files) → NoneOf generation files → BeginsFiles (all_given generation columns files es) (partitions_given (all_given generation columns files es)) files
   never_begun es files h =
-      let first = nothing_given first_generation columns files in
-      begins_same first (all_given columns files es) (partitions_given (all_given columns files es)) files (same_all first (map (given_in columns) es))
-      (nothing_begun (partitions_given (all_given columns files es)) files h)
+      let first = nothing_given generation columns files in
+      begins_same first (all_given generation columns files es) (partitions_given (all_given generation columns files es)) files (same_all first (map (given_in columns) es))
+      (nothing_begun (partitions_given (all_given generation columns files es)) files h)
 
   -- ---- how many rows
 

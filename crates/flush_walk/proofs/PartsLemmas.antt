@@ -1,5 +1,5 @@
 -- How the string of an entry's key parts.
-use Rattle.std.proofs.Common.{◌≡◌, ℕ, ◌+◌, ◌-◌, true, List, ◌++◌, length, take, drop, arith, sym, ◌∙◌, ap, length-append}
+use Rattle.std.proofs.Common.{◌≡◌, ℕ, ◌+◌, ◌-◌, true, List, ◌++◌, length, take, drop, arith, refl, sym, ◌∙◌, ap, length-append}
 use Rattle.std.proofs.Math.Seq.{take-append_seam, drop-append_seam}
 use Rattle.key_types.specs.Columns.{Columns}
 use Rattle.key_types.specs.Kinds.{Kinds}
@@ -7,9 +7,10 @@ use Rattle.key_types.specs.Table.{Entry}
 use Rattle.key_decode.specs.Reading.{values_at}
 use Rattle.key_decode.specs.Strings.{IsStringOf, BeginsString}
 use Rattle.key_decode.proofs.Known.{read_of, taken}
-use Rattle.table_tool.specs.Entries.{partition_in, clustering_in, has_some, rest_behind}
-use Rattle.table_tool.specs.TableEntries.{IsTableEntry}
-use Rattle.table_tool.proofs.PrintedLemmas.{some_key}
+use Rattle.flush_walk.specs.Entries.{partition_in, clustering_in, has_some, rest_behind}
+use Rattle.flush_walk.specs.TableEntries.{IsTableEntry}
+use Rattle.key_types.specs.Kinds.{Vals, EachFits, end, more, none, and}
+use Rattle.byte_comparable.specs.Encoding.{key_string}
 
 module _ (columns : Columns) where
   -- behind a partition's string the row's is found
@@ -40,5 +41,11 @@ module _ (columns : Columns) where
       )
 
 -- a string of a key is never empty
+pub some_key : (ts : Kinds) (vs : Vals) → EachFits ts vs → has_some (key_string ts vs) ≡ true
+some_key end none fits = refl
+some_key end (and v vs) fits = absurd fits
+some_key (more t ts) none fits = absurd fits
+some_key (more t ts) (and v vs) fits = refl
+
 pub some_string : (ts : Kinds) (string : List ℕ) → IsStringOf ts string → has_some string ≡ true
 some_string ts string (vs, is) = let p = taken ts string vs is in ap has_some (sym p.1) ∙ some_key ts vs p.0

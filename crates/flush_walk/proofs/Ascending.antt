@@ -12,8 +12,8 @@ use Rattle.byte_comparable.proofs.Compare.{same, slice_front}
 use Rattle.byte_comparable.proofs.Kept.{whole}
 use Rattle.key_decode.specs.Strings.{IsStringOf}
 use Rattle.key_decode.proofs.Known.{taken}
-use Rattle.table_tool.specs.Entries.{clustering_in, partition_in}
-use Rattle.table_tool.specs.TableEntries.{IsTableEntry}
+use Rattle.flush_walk.specs.Entries.{clustering_in, partition_in}
+use Rattle.flush_walk.specs.TableEntries.{IsTableEntry}
 
 -- ---- the order of strings that are put together
 
@@ -43,7 +43,7 @@ fronts (x ∷ xs) (y ∷ ys) cs ds less =
     first_decides x y xs ys (nat_cmp x y) (string_cmp (xs ++ cs) (ys ++ ds)) refl less (fronts xs ys cs ds)
 
 -- a string of a partition that begins with another one is that
-one_string : (ts : Kinds) (string front tail : List ℕ) → IsStringOf ts string → IsStringOf ts front → string ≡ front ++ tail → front ≡ string
+pub one_string : (ts : Kinds) (string front tail : List ℕ) → IsStringOf ts string → IsStringOf ts front → string ≡ front ++ tail → front ≡ string
 one_string ts string front tail (vs, is) (us, front_is) e =
     let of_string = taken ts string vs is in
     let of_front = taken ts front us front_is in

@@ -26,6 +26,10 @@ has_some (b ∷ bs) = true
 abbrev pub is_row : Columns → Entry → Bool
 is_row columns entry = has_some (clustering_in columns entry.0)
 
+-- how many rows an entry is, of which these bytes stand behind its partition's string: one, or none for a static value
+abbrev pub row_at : List ℕ → ℕ
+row_at clustering = if has_some clustering then 1 else 0
+
 -- how many entries are of rows
 abbrev pub row_count : Columns → List Entry → ℕ
 row_count columns [] = 0

@@ -1,11 +1,9 @@
-//! The parts of the key string of an entry, and where a partition begins.
+//! The parts of the key string of an entry: the flush and whoever prints entries take it apart.
 ghost use Rattle.std.specs.Prelude.{◌≡◌};
-ghost use Rattle.std.specs.Option.{option_copied};
 ghost use Rattle.key_types.specs.Columns.{columns_of};
 ghost use Rattle.key_types.specs.Kinds.{kinds_of};
 ghost use Rattle.key_decode.specs.Strings.{BeginsString};
-ghost use Rattle.table_tool.specs.Entries.{clustering_in, partition_in};
-ghost use Rattle.table_tool.specs.TableEntries.{begins, row_at};
+ghost use Rattle.flush_walk.specs.Entries.{clustering_in, partition_in, row_at};
 
 use key_decode::split_row;
 use key_types::Schema;
@@ -24,14 +22,4 @@ pub fn row_at(clustering: &[u8]) -> u64
     ensures { result ≡ row_at clustering.now }
 {
     u64::from(!clustering.is_empty())
-}
-
-/// Whether an entry of this partition begins it, behind an entry of the open one.
-pub fn begins(last: Option<&[u8]>, partition: &[u8]) -> bool
-    ensures { result ≡ begins (option_copied last.entry) partition.now }
-{
-    match last {
-        Some(before) => before != partition,
-        None => true,
-    }
 }
