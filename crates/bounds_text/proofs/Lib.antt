@@ -1,0 +1,4 @@
+pub mod Ahead
+pub mod Ascending
+pub mod Parted
+pub mod Standing
