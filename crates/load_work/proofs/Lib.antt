@@ -1,0 +1,4 @@
+pub mod Lists
+pub mod Written
+pub mod Answered
+pub mod Dealing

@@ -1,0 +1,75 @@
+-- The workers of a table dealt out as jobs, and what they left. This project's own.
+use Rattle.std.specs.Prelude.{◌≡◌, ◌⊎◌, ◌≤◌, ◌<◌, ℕ, suc, min, List, [], ◌∷◌, ◌++◌, length, slice_get, Option, Some, None, IfSome, All}
+use Rattle.std.specs.Global.{Vec}
+use Rattle.trie_rule.specs.Seats.{CellsAt, WriterAt, ReaderAt}
+use Rattle.shard_table.specs.Seats.{TableAt, AreEach, IsFreeWriter, IsFreeReader}
+use Rattle.load_work.specs.declared.batch.BatchPut.{BatchPut}
+use Rattle.load_work.specs.declared.batch.BatchGet.{BatchGet}
+use Rattle.load_work.specs.declared.batch.Answer.{Answer}
+use Rattle.load_work.specs.declared.jobs.Job.{Job}
+use Rattle.load_work.specs.declared.jobs.Job.TheVariants.{Write, Read}
+use Rattle.load_work.specs.declared.jobs.Done.{Done}
+use Rattle.load_work.specs.Puts.{HasWritten}
+use Rattle.load_work.specs.Reads.{HasGrown, HasRead, AnswersRise, gets_of}
+use Rattle.load_work.specs.Jobs.{HasRun}
+
+-- the jobs of these writers, the first of which is that of shard i
+abbrev pub writes_from : ℕ → List WriterAt → List Job
+writes_from i [] = []
+writes_from i (s ∷ seats) = Write i s ∷ writes_from (suc i) seats
+
+-- the jobs of these readers, the first of which is reader q
+abbrev pub reads_from : ℕ → List (Vec ReaderAt) → List Job
+reads_from q [] = []
+reads_from q (seats ∷ readers) = Read q seats ∷ reads_from (suc q) readers
+
+-- the workers are dealt from the last one to the first, so that the last place is the first worker's: it has what a worker
+-- leaves that has nothing to do, or is empty, and then the last job is this worker's
+abbrev pub IsDealt : TableAt → List BatchPut → List BatchGet → List Job → List Job → List (Option Done) → Type 0
+IsDealt table puts gets [] jobs places = (jobs ≡ []) × (places ≡ [])
+IsDealt table puts gets (worker ∷ workers) jobs places =
+    ((others : List (Option Done)) × (done : Done) × (places ≡ others ++ Some done ∷ []) × HasRun table puts gets worker done
+        × IsDealt table puts gets workers jobs others)
+    ⊎ ((others : List (Option Done)) × (more : List Job) × (places ≡ others ++ None ∷ []) × (jobs ≡ more ++ worker ∷ [])
+        × IsDealt table puts gets workers more others)
+
+-- what these workers left is in these places, or is what their jobs left
+abbrev pub IsLeft : TableAt → List BatchPut → List BatchGet → List Job → List Done → List (Option Done) → Type 0
+IsLeft table puts gets workers left places = (jobs : List Job) × IsDealt table puts gets workers jobs places
+    × AreEach (HasRun table puts gets) jobs left
+
+-- the lesser of two lines, where there are two
+abbrev pub earlier_line : Option ℕ → Option ℕ → Option ℕ
+earlier_line None line = line
+earlier_line (Some a) None = Some a
+earlier_line (Some a) (Some b) = Some (min a b)
+
+-- where there is a line, there is a first one, which is no later
+abbrev pub IsNoLater : Option ℕ → Option ℕ → Type 0
+IsNoLater first None = Unit {0}
+IsNoLater None (Some line) = ⊥
+IsNoLater (Some first) (Some line) = first ≤ line
+
+-- the writers were these before and are those after their puts; `first` is the least line for which one had no room
+pub record HaveWritten (table : TableAt) (puts : List BatchPut) (before after : List WriterAt) (first : Option ℕ) : Type 0 where
+  pub len : length after ≡ length before
+  pub free : (i : ℕ) (t : WriterAt) → slice_get after i ≡ Some t
+      → (cells : CellsAt) × (slice_get table.shards i ≡ Some cells) × IsFreeWriter cells t
+  pub each : (i : ℕ) (s t : WriterAt) → slice_get before i ≡ Some s → slice_get after i ≡ Some t
+      → (full : Option ℕ) × HasWritten table.bounds i s.knows t.knows puts full × IsNoLater first full
+  pub first_is : IfSome first (λ line. (i : ℕ) × (s t : WriterAt) × (slice_get before i ≡ Some s)
+      × HasWritten table.bounds i s.knows t.knows puts (Some line))
+
+-- reader q had these seats before, has those after its gets, and answered this
+pub record ReaderHasRead (table : TableAt) (gets : List BatchGet) (q : ℕ) (before after : List ReaderAt) (answers : List Answer) : Type 0 where
+  pub grown : AreEach HasGrown before after
+  pub read : AreEach (HasRead table.bounds before after) (gets_of q gets) answers
+  pub rise : AnswersRise answers
+
+-- each reader had these seats before, has those after its gets, and answered this
+pub record HaveRead (table : TableAt) (gets : List BatchGet) (before after : List (Vec ReaderAt)) (answers : List (Vec Answer)) : Type 0 where
+  pub len : length after ≡ length before
+  pub lists : length answers ≡ length before
+  pub free : All (λ seats. AreEach IsFreeReader table.shards seats.items) after
+  pub each : (q : ℕ) (old new : Vec ReaderAt) (list : Vec Answer) → slice_get before q ≡ Some old → slice_get after q ≡ Some new
+      → slice_get answers q ≡ Some list → ReaderHasRead table gets q old.items new.items list.items

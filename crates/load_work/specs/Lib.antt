@@ -1,0 +1,5 @@
+pub mod Puts
+pub mod Reads
+pub mod Jobs
+pub mod Deal
+pub mod Work

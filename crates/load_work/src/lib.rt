@@ -1,0 +1,13 @@
+//! A batch of a script, put into the shards of a table and read from them on threads. Whoever loads a script calls it.
+//!
+//! Each shard with puts has a writer and each reader with gets walks beside it; all are joined before an answer is given.
+#![tactic(auto)]
+
+mod batch;
+mod deal;
+mod jobs;
+mod read;
+mod settle;
+mod write;
+
+pub use batch::{Answer, BatchGet, BatchPut};
