@@ -11,6 +11,7 @@ use Rattle.shard_table.proofs.Each.{each_length, each_at, each_more}
 use Rattle.load_work.specs.declared.batch.BatchGet.{BatchGet}
 use Rattle.load_work.specs.declared.batch.Answer.{Answer}
 use Rattle.load_work.specs.Reads.{HasGrown, IsAnswered, AnswersTo, HasRead, AnswersRise}
+use Rattle.load_work.proofs.Lists.{old_or_last, get_before}
 
 module _ {X Y : Type 0} (P : X → Y → Type 0) where
   -- another item in the second list
@@ -68,17 +69,12 @@ take_longer made rest zero le = refl
 take_longer [] rest (suc n) le = absurd (omega arith)
 take_longer (p ∷ made) rest (suc n) le = ap (λ (l : List Put). p ∷ l) (take_longer made rest n (omega arith))
 
-pub get_longer : (made rest : List Put) (n : ℕ) (p : Put) → slice_get made n ≡ Some p → slice_get (made ++ rest) n ≡ Some p
-get_longer [] rest n p at = absurd (cc)
-get_longer (q ∷ made) rest zero p at = at
-get_longer (q ∷ made) rest (suc n) p at = get_longer made rest n p at
-
 seen_longer : (seen later : List Put) (rec : Rec) → IsStartOf seen later → IsSeenRecord seen rec → IsSeenRecord later rec
 seen_longer seen later rec start (n, put, is) = (
   n,
   put,
   record {
-    is_there = subst (λ (l : List Put). slice_get l n ≡ Some put) (sym start.1) (get_longer seen start.0 n put is.is_there);
+    is_there = subst (λ (l : List Put). slice_get l n ≡ Some put) (sym start.1) (get_before seen start.0 n put is.is_there);
     cell = is.cell;
     number = is.number;
     len = is.len;
@@ -107,12 +103,14 @@ module _ (bounds : List (List ℕ)) (first before after : List ReaderAt) (was : 
   pub read_longer : (g : BatchGet) (a : Answer) → HasRead bounds first before g a → HasRead bounds first after g a
   read_longer g a read = record {
     names = read.names;
+    inside = read.inside;
     is = λ s u at to. let p = each_partner HasGrown before after a.shard u more to in answered_longer s p.0 u g a (read.is s p.0 at p.1) p.2;
   }
 
   pub read_now : (g : BatchGet) (a : Answer) → HasRead bounds before after g a → HasRead bounds first after g a
   read_now g a read = record {
     names = read.names;
+    inside = omega (arith, read.inside, each_length HasGrown first before was);
     is = λ s u at to. let p = each_partner HasGrown before after a.shard u more to in
         answered_earlier s p.0 u g a (each_at HasGrown first before a.shard s p.0 was at p.1) (read.is p.0 u p.1 to);
   }
@@ -125,6 +123,7 @@ module _ (bounds : List (List ℕ)) (first before after : List ReaderAt) (was : 
 pub read_at : (bounds : List (List ℕ)) (seats : List ReaderAt) (i : ℕ) (s t : ReaderAt) (g : BatchGet) (a : Answer) → AnswersTo bounds g a → a.shard ≡ i → i < length seats → slice_get seats i ≡ Some s → IsAnswered s t g a → HasRead bounds seats (set seats i t) g a
 read_at bounds seats i s t g a names e less here is = record {
   names = names;
+  inside = omega (arith, e, less);
   is = λ s' t' at to.
       let at' : slice_get seats i ≡ Some s' = subst (λ (n : ℕ). slice_get seats n ≡ Some s') e at in
       let to' : slice_get (set seats i t) i ≡ Some t' = subst (λ (n : ℕ). slice_get (set seats i t) n ≡ Some t') e to in
@@ -134,23 +133,12 @@ read_at bounds seats i s t g a names e less here is = record {
 }
 
 -- the item of the second list that belongs to one of the first
-each_other : {X Y : Type 0} (P : X → Y → Type 0) (xs : List X) (ys : List Y) (i : ℕ) (x : X) → AreEach P xs ys → slice_get xs i ≡ Some x → (y : Y) × (slice_get ys i ≡ Some y) × P x y
+pub each_other : {X Y : Type 0} (P : X → Y → Type 0) (xs : List X) (ys : List Y) (i : ℕ) (x : X) → AreEach P xs ys → slice_get xs i ≡ Some x → (y : Y) × (slice_get ys i ≡ Some y) × P x y
 each_other P [] [] i x h at = absurd (cc)
 each_other P [] (y ∷ ys) i x h at = absurd h
 each_other P (x' ∷ xs) [] i x h at = absurd h
 each_other P (x' ∷ xs) (y ∷ ys) zero x (h, hs) at = let e : x' ≡ x = cc in (y, refl, subst (λ (z : _). P z y) e h)
 each_other P (x' ∷ xs) (y ∷ ys) (suc i) x (h, hs) at = each_other P xs ys i x hs at
-
--- an item of a list with one more is one of the list or the new one
-old_or_last : (l : List Answer) (x y : Answer) (i : ℕ) → slice_get (l ++ x ∷ []) i ≡ Some y → (slice_get l i ≡ Some y) ⊎ ((i ≡ length l) × (x ≡ y))
-old_or_last [] x y zero at = inr (refl, cc)
-old_or_last [] x y (suc i) at = absurd (cc)
-old_or_last (z ∷ l) x y zero at = inl at
-old_or_last (z ∷ l) x y (suc i) at = by (old_or_last l x y i at)
-  where
-    by : (slice_get l i ≡ Some y) ⊎ ((i ≡ length l) × (x ≡ y)) → (slice_get (z ∷ l) (suc i) ≡ Some y) ⊎ ((suc i ≡ length (z ∷ l)) × (x ≡ y))
-    by (inl there) = inl there
-    by (inr (e, same)) = inr (ap suc e, same)
 
 answer_inside : (l : List Answer) (i : ℕ) (x : Answer) → slice_get l i ≡ Some x → i < length l
 answer_inside [] i x at = absurd (cc)

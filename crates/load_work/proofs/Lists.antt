@@ -1,5 +1,9 @@
 -- Lists, filtered and parted.
-use Rattle.std.proofs.Common.{◌≡◌, ℕ, zero, suc, ◌+◌, ◌<◌, Bool, true, false, cond, List, [], ◌∷◌, ◌++◌, length, take, drop, filter, slice_get, slice_index_or, Some, refl, ap, ◌∙◌, append-nil, append_assoc, arith}
+use Rattle.std.specs.Global.{Vec}
+use Rattle.std.proofs.lemmas.Option.{slice_get_within}
+use Rattle.std.proofs.lemmas.List.{take_all}
+use Rattle.shard_table.specs.Seats.{AreEach}
+use Rattle.std.proofs.Common.{◌≡◌, ◌≢◌, ◌⊎◌, set, ℕ, zero, suc, ◌+◌, ◌<◌, Bool, true, false, cond, List, [], ◌∷◌, ◌++◌, length, take, drop, filter, vec_len, slice_get, slice_index_or, Some, inl, inr, refl, sym, ap, ◌∙◌, append-nil, append_assoc, arith}
 
 one_more : (k : ℕ) → k + 1 ≡ suc k
 one_more k = omega arith
@@ -63,3 +67,84 @@ module _ {X : Type 0} where
   -- the last of those before goes over to those behind
   pub one_less : (all before now rest : List X) (x : X) → all ≡ before ++ rest → before ≡ now ++ x ∷ [] → all ≡ now ++ x ∷ rest
   one_less all before now rest x e f = e ∙ ap (λ (l : List X). l ++ rest) f ∙ append_assoc now (x ∷ []) rest
+
+  pub taken : (xs : List X) (k : ℕ) (x : X) → slice_get xs k ≡ Some x → take (suc k) xs ≡ take k xs ++ x ∷ []
+  taken [] k x at = absurd (cc)
+  taken (y ∷ xs) zero x at = let e : y ≡ x = cc in ap (λ (z : X). z ∷ []) e
+  taken (y ∷ xs) (suc k) x at = ap (λ (l : List X). y ∷ l) (taken xs k x at)
+
+  pub dropped : (xs : List X) (k : ℕ) (x : X) → slice_get xs k ≡ Some x → drop k xs ≡ x ∷ drop (suc k) xs
+  dropped [] k x at = absurd (cc)
+  dropped (y ∷ xs) zero x at = let e : y ≡ x = cc in ap (λ (z : X). z ∷ xs) e
+  dropped (y ∷ xs) (suc k) x at = dropped xs k x at
+
+  -- an item of a list with one more is one of the list or the new one
+  pub old_or_last : (l : List X) (x y : X) (i : ℕ) → slice_get (l ++ x ∷ []) i ≡ Some y → (slice_get l i ≡ Some y) ⊎ ((i ≡ length l) × (x ≡ y))
+  old_or_last [] x y zero at = inr (refl, cc)
+  old_or_last [] x y (suc i) at = absurd (cc)
+  old_or_last (z ∷ l) x y zero at = inl at
+  old_or_last (z ∷ l) x y (suc i) at = by (old_or_last l x y i at)
+    where
+      by : (slice_get l i ≡ Some y) ⊎ ((i ≡ length l) × (x ≡ y)) → (slice_get (z ∷ l) (suc i) ≡ Some y) ⊎ ((suc i ≡ length (z ∷ l)) × (x ≡ y))
+      by (inl there) = inl there
+      by (inr (e, same)) = inr (ap suc e, same)
+
+  pub get_before : (xs ys : List X) (n : ℕ) (x : X) → slice_get xs n ≡ Some x → slice_get (xs ++ ys) n ≡ Some x
+  get_before [] ys n x at = absurd (cc)
+  get_before (y ∷ xs) ys zero x at = at
+  get_before (y ∷ xs) ys (suc n) x at = get_before xs ys n x at
+
+-- the same of two lists that are as long
+pub pair_old_or_last : {X Y : Type 0} (xs : List X) (ys : List Y) (x x' : X) (y y' : Y) (i : ℕ) → length xs ≡ length ys → slice_get (xs ++ x ∷ []) i ≡ Some x' → slice_get (ys ++ y ∷ []) i ≡ Some y'
+    → ((slice_get xs i ≡ Some x') × (slice_get ys i ≡ Some y')) ⊎ ((i ≡ length xs) × (x ≡ x') × (y ≡ y'))
+pair_old_or_last {X} {Y} xs ys x x' y y' i same at to = by (old_or_last xs x x' i at) (old_or_last ys y y' i to)
+  where
+    by : (slice_get xs i ≡ Some x') ⊎ ((i ≡ length xs) × (x ≡ x')) → (slice_get ys i ≡ Some y') ⊎ ((i ≡ length ys) × (y ≡ y')) → ((slice_get xs i ≡ Some x') × (slice_get ys i ≡ Some y')) ⊎ ((i ≡ length xs) × (x ≡ x') × (y ≡ y'))
+    by (inl a) (inl b) = inl (a, b)
+    by (inl a) (inr (f, q)) = absurd (omega (arith, same, f, slice_get_within xs i x' a))
+    by (inr (e, p)) (inl b) = absurd (omega (arith, same, e, slice_get_within ys i y' b))
+    by (inr (e, p)) (inr (f, q)) = inr (e, p, q)
+
+pub empty_vec : {X : Type 0} (v : Vec X) → vec_len v ≡ 0 → v.items ≡ []
+empty_vec v e = empty v.items (omega (arith, v.ok.0, e))
+  where
+    empty : {X : Type 0} (xs : List X) → length xs ≡ 0 → xs ≡ []
+    empty [] f = refl
+    empty (x ∷ xs) f = absurd (omega arith)
+
+-- an item of a list in which one is set is this one, or one of the list
+pub set_cases : {X : Type 0} (xs : List X) (i j : ℕ) (x y : X) → slice_get (set xs i x) j ≡ Some y → ((j ≡ i) × (x ≡ y)) ⊎ ((j ≢ i) × (slice_get xs j ≡ Some y))
+set_cases [] i j x y at = absurd (cc)
+set_cases (z ∷ xs) zero zero x y at = inl (refl, cc)
+set_cases (z ∷ xs) zero (suc j) x y at = inr (omega arith, at)
+set_cases (z ∷ xs) (suc i) zero x y at = inr (omega arith, at)
+set_cases (z ∷ xs) (suc i) (suc j) x y at = by (set_cases xs i j x y at)
+  where
+    by : ((j ≡ i) × (x ≡ y)) ⊎ ((j ≢ i) × (slice_get xs j ≡ Some y)) → ((suc j ≡ suc i) × (x ≡ y)) ⊎ ((suc j ≢ suc i) × (slice_get (z ∷ xs) (suc j) ≡ Some y))
+    by (inl h) = inl (ap suc h.0, h.1)
+    by (inr h) = inr (omega (arith, h.0), h.1)
+
+pub set_beside : {X : Type 0} (xs : List X) (i j : ℕ) (x : X) → i < j → slice_get (set xs i x) j ≡ slice_get xs j
+set_beside [] i j x less = refl
+set_beside (z ∷ xs) i zero x less = absurd (omega arith)
+set_beside (z ∷ xs) zero (suc j) x less = refl
+set_beside (z ∷ xs) (suc i) (suc j) x less = set_beside xs i j x (omega arith)
+
+-- a slice written back over the whole of a list
+pub whole_again : {X : Type 0} (r xs : List X) (n : ℕ) → n ≡ length xs → length r ≡ length xs → take n (r ++ drop (length r) xs) ≡ r
+whole_again r xs n e f = rest_none xs r n e f
+  where
+    none_left : {X : Type 0} (xs : List X) (n : ℕ) → n ≡ length xs → drop n xs ≡ []
+    none_left [] zero e = refl
+    none_left [] (suc n) e = refl
+    none_left (x ∷ xs) zero e = absurd (omega arith)
+    none_left (x ∷ xs) (suc n) e = none_left xs n (omega arith)
+    rest_none : {X : Type 0} (xs r : List X) (n : ℕ) → n ≡ length xs → length r ≡ length xs → take n (r ++ drop (length r) xs) ≡ r
+    rest_none xs r n e f = ap (λ (l : List _). take n (r ++ l)) (none_left xs (length r) f) ∙ ap (take n) (append-nil r) ∙ take_all n r (omega (arith, e, f))
+
+-- items that belong together by their places
+pub each_by_place : {X Y : Type 0} (P : X → Y → Type 0) (xs : List X) (ys : List Y) → length xs ≡ length ys → ((i : ℕ) (x : X) (y : Y) → slice_get xs i ≡ Some x → slice_get ys i ≡ Some y → P x y) → AreEach P xs ys
+each_by_place P [] [] e h = tt
+each_by_place P [] (y ∷ ys) e h = absurd (omega arith)
+each_by_place P (x ∷ xs) [] e h = absurd (omega arith)
+each_by_place P (x ∷ xs) (y ∷ ys) e h = (h 0 x y refl refl, each_by_place P xs ys (omega arith) (λ i a b. h (suc i) a b))

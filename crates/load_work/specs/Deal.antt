@@ -2,6 +2,7 @@
 use Rattle.std.specs.Prelude.{◌≡◌, ◌⊎◌, ◌≤◌, ◌<◌, ℕ, suc, min, List, [], ◌∷◌, ◌++◌, length, slice_get, Option, Some, None, IfSome, All}
 use Rattle.std.specs.Global.{Vec}
 use Rattle.trie_rule.specs.Seats.{CellsAt, WriterAt, ReaderAt}
+use Rattle.shard_table.specs.declared.workers.Workers.{Workers}
 use Rattle.shard_table.specs.Seats.{TableAt, AreEach, IsFreeWriter, IsFreeReader}
 use Rattle.load_work.specs.declared.batch.BatchPut.{BatchPut}
 use Rattle.load_work.specs.declared.batch.BatchGet.{BatchGet}
@@ -11,7 +12,7 @@ use Rattle.load_work.specs.declared.jobs.Job.TheVariants.{Write, Read}
 use Rattle.load_work.specs.declared.jobs.Done.{Done}
 use Rattle.load_work.specs.Puts.{HasWritten}
 use Rattle.load_work.specs.Reads.{HasGrown, HasRead, AnswersRise, gets_of}
-use Rattle.load_work.specs.Jobs.{HasRun}
+use Rattle.load_work.specs.Jobs.{CanRun, HasRun}
 
 -- the jobs of these writers, the first of which is that of shard i
 abbrev pub writes_from : ℕ → List WriterAt → List Job
@@ -23,15 +24,19 @@ abbrev pub reads_from : ℕ → List (Vec ReaderAt) → List Job
 reads_from q [] = []
 reads_from q (seats ∷ readers) = Read q seats ∷ reads_from (suc q) readers
 
+-- the jobs of all workers: of the writers, and then of the readers
+abbrev pub jobs_of : Workers → List Job
+jobs_of w = writes_from 0 w.writers.items ++ (reads_from 0 w.readers.items ++ [])
+
 -- the workers are dealt from the last one to the first, so that the last place is the first worker's: it has what a worker
--- leaves that has nothing to do, or is empty, and then the last job is this worker's
+-- leaves that has nothing to do, or is empty, and then the last job is this worker's, who can do it
 abbrev pub IsDealt : TableAt → List BatchPut → List BatchGet → List Job → List Job → List (Option Done) → Type 0
 IsDealt table puts gets [] jobs places = (jobs ≡ []) × (places ≡ [])
 IsDealt table puts gets (worker ∷ workers) jobs places =
     ((others : List (Option Done)) × (done : Done) × (places ≡ others ++ Some done ∷ []) × HasRun table puts gets worker done
         × IsDealt table puts gets workers jobs others)
     ⊎ ((others : List (Option Done)) × (more : List Job) × (places ≡ others ++ None ∷ []) × (jobs ≡ more ++ worker ∷ [])
-        × IsDealt table puts gets workers more others)
+        × CanRun table worker × IsDealt table puts gets workers more others)
 
 -- what these workers left is in these places, or is what their jobs left
 abbrev pub IsLeft : TableAt → List BatchPut → List BatchGet → List Job → List Done → List (Option Done) → Type 0

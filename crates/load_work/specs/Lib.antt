@@ -3,3 +3,4 @@ pub mod Reads
 pub mod Jobs
 pub mod Deal
 pub mod Work
+pub mod Merge

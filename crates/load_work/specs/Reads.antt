@@ -44,6 +44,7 @@ pub record AnswersTo (bounds : List (List ℕ)) (g : BatchGet) (a : Answer) : Ty
 -- the reader's seats were these before and are those after, and the answer is that of its seat at the get's shard
 pub record HasRead (bounds : List (List ℕ)) (before after : List ReaderAt) (g : BatchGet) (a : Answer) : Type 0 where
   pub names : AnswersTo bounds g a
+  pub inside : a.shard < length before
   pub is : (s t : ReaderAt) → slice_get before a.shard ≡ Some s → slice_get after a.shard ≡ Some t → IsAnswered s t g a
 
 -- answers of one shard don't fall

@@ -1,31 +1,27 @@
 -- A whole batch: what it asks of the workers, what it leaves, and what it answers. This project's own.
-use Rattle.std.specs.Prelude.{◌≡◌, ◌<◌, ◌≤◌, ℕ, List, length, take, slice_get, Option, Some, IfSome, All}
+use Rattle.std.specs.Prelude.{◌≡◌, ◌<◌, ◌≤◌, ℕ, List, length, take, slice_get, Option, Some, Result, Ok, Err, IfSome, All}
+use Rattle.std.specs.Global.{Vec}
 use Rattle.trie_image.specs.declared.Put.{Put}
 use Rattle.trie_image.specs.declared.Rec.{Rec}
 use Rattle.trie_image.specs.Puts.{HasLastPut}
 use Rattle.trie_rule.specs.declared.views.WriteView.{WriteView}
 use Rattle.trie_rule.specs.Rule.{IsStartOf}
-use Rattle.trie_rule.specs.Seats.{WriterAt, ReaderAt}
+use Rattle.trie_rule.specs.Seats.{CellsAt, WriterAt, ReaderAt}
 use Rattle.trie_reader.specs.Read.{IsSeenRecord}
 use Rattle.shard_table.specs.declared.workers.Workers.{Workers}
-use Rattle.shard_table.specs.Seats.{AreEach, OfSeat}
+use Rattle.shard_table.specs.Seats.{AreEach, AreWorkers, OfSeat}
 use Rattle.load_work.specs.declared.batch.BatchPut.{BatchPut}
 use Rattle.load_work.specs.declared.batch.BatchGet.{BatchGet}
 use Rattle.load_work.specs.declared.batch.Answer.{Answer}
-use Rattle.load_work.specs.Puts.{Makes, StopsAt, puts_of}
+use Rattle.load_work.specs.declared.work.LoadError.{LoadError}
+use Rattle.load_work.specs.declared.work.LoadError.TheVariants as load_error
+use Rattle.load_work.specs.Puts.{Makes, StopsAt, HasWritten, puts_of}
 use Rattle.load_work.specs.Reads.{IsGet, AnswersTo}
 
 -- the get is within its limits, and its reader is one of so many
 pub record IsGetBelow (readers : ℕ) (g : BatchGet) : Type 0 where
   pub get : IsGet g
   pub reader : g.reader < readers
-
--- lines ascend in both lists of a batch
-abbrev pub PutsAscend : List BatchPut → Type 0
-PutsAscend puts = (i j : ℕ) (p q : BatchPut) → i < j → slice_get puts i ≡ Some p → slice_get puts j ≡ Some q → p.line < q.line
-
-abbrev pub GetsAscend : List BatchGet → Type 0
-GetsAscend gets = (i j : ℕ) (g h : BatchGet) → i < j → slice_get gets i ≡ Some g → slice_get gets j ≡ Some h → g.line < h.line
 
 -- the reader knows all puts that the writer has made
 pub record HasLearnt (w : WriterAt) (s : ReaderAt) : Type 0 where
@@ -68,6 +64,20 @@ pub record IsFirstFull (bounds : List (List ℕ)) (puts : List BatchPut) (w : Wo
   pub shard : ℕ
   pub full : IsFullAt bounds puts w shard line
   pub least : (i other : ℕ) → IsFullAt bounds puts w i other → line ≤ other
+
+abbrev pub NoneIsFull : List (List ℕ) → List BatchPut → Workers → Type 0
+NoneIsFull bounds puts w = (i line : ℕ) → IsFullAt bounds puts w i line → ⊥
+
+-- each writer made the puts of its shard, up to the first for which its shard had no room
+abbrev pub HaveTried : List (List ℕ) → List BatchPut → Workers → Workers → Type 0
+HaveTried bounds puts before after = (i : ℕ) (s t : WriterAt) → slice_get before.writers.items i ≡ Some s
+    → slice_get after.writers.items i ≡ Some t → (full : Option ℕ) × HasWritten bounds i s.knows t.knows puts full
+
+-- the seats are those of the shards again, unless there was no memory: then some may be lost
+abbrev pub LeavesWorkers : List CellsAt → Workers → Result (Vec Answer) LoadError → Type 0
+LeavesWorkers shards w (Err load_error.NoMemory) = Unit {0}
+LeavesWorkers shards w (Err (load_error.Full line)) = AreWorkers shards w
+LeavesWorkers shards w (Ok answers) = AreWorkers shards w
 
 -- some list of puts that begins with those made has this at the key after its first `at`
 abbrev pub IsFoundFrom : List Put → List ℕ → Option Rec → ℕ → Type 0

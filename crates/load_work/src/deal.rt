@@ -1,20 +1,21 @@
 //! The seats of a table's workers, dealt out as jobs to those that have something to do, from the last worker to the first.
 
 ghost use Rattle.std.specs.Prelude.{◌≡◌, ◌≤◌, [], ◌∷◌, ◌++◌, true, false, IfOk, List, All, vec_len, length};
-ghost use Rattle.shard_table.specs.Seats.{TableAt, AreEach, IsFreeWriter, IsFreeReader};
+ghost use Rattle.shard_table.specs.Seats.{TableAt, AreEach, AreWorkers, IsFreeWriter, IsFreeReader};
 ghost use Rattle.load_work.specs.declared.batch.BatchPut.{BatchPut};
 ghost use Rattle.load_work.specs.declared.batch.BatchGet.{BatchGet};
 ghost use Rattle.load_work.specs.declared.jobs.Job.{Job};
 ghost use Rattle.load_work.specs.Puts.{puts_of};
 ghost use Rattle.load_work.specs.Reads.{gets_of};
-ghost use Rattle.load_work.specs.Jobs.{HasRun};
-ghost use Rattle.load_work.specs.Deal.{IsDealt, writes_from, reads_from};
+ghost use Rattle.load_work.specs.Jobs.{CanRun, HasRun};
+ghost use Rattle.load_work.specs.Deal.{IsDealt, writes_from, reads_from, jobs_of};
 
 use crate::batch::{BatchGet, BatchPut};
 use crate::jobs::{Done, Job};
 use key_types::NoMemory;
-use shard_table::ShardTable;
+use shard_table::{ShardTable, Workers};
 use std::alloc::Global;
+use std::mem;
 use trie_rule::{ReadSeat, WriteSeat};
 
 /// The jobs of the workers that have something to do, and a place for each worker: one that has nothing to do has in it at
@@ -50,7 +51,29 @@ fn has_gets(gets: &[BatchGet], reader: u32) -> bool
 }
 
 impl Dealt {
-    pub(crate) fn new(alloc: Global) -> Dealt
+    /// Deals all workers, whose seats go out of the table's workers.
+    pub(crate) fn of(
+        alloc: Global,
+        table: &ShardTable,
+        puts: &[BatchPut],
+        gets: &[BatchGet],
+        workers: &mut Workers,
+    ) -> Result<Dealt, NoMemory>
+        requires few { length table.now.shards ≤ 8 }
+        requires eight { vec_len workers.old.readers ≤ 8 }
+        requires workers { AreWorkers table.now.shards workers.old }
+        ensures { IfOk result (λ dealt.
+            IsDealt table.now puts.now gets.now (jobs_of workers.old) dealt.jobs.items dealt.places.items) }
+    {
+        let writers = mem::replace(&mut workers.writers, Vec::new(alloc));
+        let readers = mem::replace(&mut workers.readers, Vec::new(alloc));
+        let mut dealt = Dealt::new(alloc);
+        dealt.deal_readers(alloc, gets, readers)?;
+        dealt.deal_writers(table, puts, writers)?;
+        Ok(dealt)
+    }
+
+    fn new(alloc: Global) -> Dealt
         ensures jobs { result.jobs.items ≡ [] }
         ensures places { result.places.items ≡ [] }
     {
@@ -63,7 +86,7 @@ impl Dealt {
     /// A worker's job, for a thread.
     fn deal(&mut self, job: Job) -> Result<(), NoMemory>
         ensures { IfOk result (λ _. (table : TableAt) (puts : List BatchPut) (gets : List BatchGet) (workers : List Job) →
-            IsDealt table puts gets workers self.old.jobs.items self.old.places.items →
+            CanRun table job → IsDealt table puts gets workers self.old.jobs.items self.old.places.items →
             IsDealt table puts gets (job ∷ workers) self.new.jobs.items self.new.places.items) }
     {
         self.places.push(None)?;
@@ -83,7 +106,7 @@ impl Dealt {
     }
 
     /// Deals the readers: those with gets get jobs.
-    pub(crate) fn deal_readers(
+    fn deal_readers(
         &mut self,
         alloc: Global,
         gets: &[BatchGet],
@@ -108,7 +131,7 @@ impl Dealt {
     }
 
     /// Deals the writers: those of shards with puts get jobs.
-    pub(crate) fn deal_writers(
+    fn deal_writers(
         &mut self,
         table: &ShardTable,
         puts: &[BatchPut],

@@ -6,8 +6,12 @@
 mod batch;
 mod deal;
 mod jobs;
+mod left;
+mod merge;
 mod read;
 mod settle;
+mod work;
 mod write;
 
 pub use batch::{Answer, BatchGet, BatchPut};
+pub use work::{LoadError, run_batch};

@@ -68,7 +68,6 @@ fn read_get<G: Gate>(table: &ShardTable, seats: &mut [ReadSeat], get: &BatchGet,
     ensures seats { AreEach IsFreeReader table.now.shards seats.new }
     ensures grown { AreEach HasGrown seats.old seats.new }
     ensures read { HasRead table.now.bounds seats.old seats.new get.now result }
-    ensures inside { result.shard < length seats.old }
 {
     gate.before_read(get.reader, get.line);
     let shard = table.shard_of(get.partition);

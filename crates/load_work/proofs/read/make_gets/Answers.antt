@@ -26,7 +26,7 @@ gets-preserved g c =
     let mine : is_of q get ≡ true = search rules in
     let next : gets_of q (take (k + 1) gets) ≡ gets_of q (take k gets) ++ get ∷ [] = filter_taken (is_of q) gets k get (omega arith) (any_default gets k _ get (omega arith)) mine in
     let pushed = c.in_ok-push.ensures.items in let was = c.gets.invariant.grown in let more = c.read_get.ensures.grown in
-    let seat = item_at before a.shard c.read_get.ensures.inside in
+    let seat = item_at before a.shard c.read_get.ensures.read.inside in
     record {
       free = c.read_get.ensures.seats;
       grown = each_chain HasGrown first before after grown_on was more;

@@ -26,6 +26,3 @@ pub returns-clause-read : goal.returns-clause-read
 returns-clause-read g c =
     let seats = c.args.seats.now in let i = c.shard_of-shard.result in let e = c.answer.ensures in
     read_at c.args.table.now.bounds seats i _ c.answer.new.seat c.args.get.now c.answer.result (record { line = e.line; reader = e.reader; shard = e.shard ∙ c.shard_of-shard.ensures.is }) e.shard (inside_each IsFreeReader c.args.table.now.shards c.args.seats.now c.shard_of-shard.result c.requires.seats c.shard_of-shard.ensures.inside) (slice_get-get_or seats i c.index-seats-shard.result (inside_each IsFreeReader c.args.table.now.shards c.args.seats.now c.shard_of-shard.result c.requires.seats c.shard_of-shard.ensures.inside)) e.answer
-
-pub returns-clause-inside : goal.returns-clause-inside
-returns-clause-inside g c = subst (λ (n : ℕ). n < length c.args.seats.now) (sym c.answer.ensures.shard) (inside_each IsFreeReader c.args.table.now.shards c.args.seats.now c.shard_of-shard.result c.requires.seats c.shard_of-shard.ensures.inside)
