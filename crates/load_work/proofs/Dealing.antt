@@ -1,8 +1,7 @@
 -- The workers that are dealt out, one after the other.
-use Rattle.std.proofs.Common.{rules, ◌≡◌, ◌+◌, Bool, false, ℕ, suc, ◌<◌, List, [], ◌∷◌, ◌++◌, length, take, slice_get, slice_index_or, Option, Some, None, Ok, IfOk, All, refl, sym, ap, ◌∙◌, subst, length-append, arith}
+use Rattle.std.proofs.Common.{rules, ◌≡◌, ◌+◌, false, ℕ, suc, ◌<◌, List, [], ◌∷◌, ◌++◌, length, take, slice_get, slice_index_or, Option, Some, None, Ok, All, refl, sym, ap, ◌∙◌, subst, length-append, arith}
 use Rattle.std.specs.Global.{Vec}
 use Rattle.trie_rule.specs.Seats.{CellsAt, WriterAt, ReaderAt}
-use Rattle.trie_writer.specs.Written.{MayWrite}
 use Rattle.shard_table.specs.Seats.{TableAt, AreEach, IsFreeWriter, IsFreeReader}
 use Rattle.load_work.specs.declared.batch.BatchPut.{BatchPut}
 use Rattle.load_work.specs.declared.batch.BatchGet.{BatchGet}
@@ -12,11 +11,11 @@ use Rattle.load_work.specs.declared.jobs.Job.TheVariants.{Write, Read}
 use Rattle.load_work.specs.declared.jobs.Done.{Done}
 use Rattle.load_work.specs.declared.jobs.Done.TheVariants as done
 use Rattle.load_work.specs.Puts.{Makes, goes_to, puts_of}
-use Rattle.load_work.specs.Reads.{HasGrown, HasRead, AnswersRise, is_of, gets_of}
+use Rattle.load_work.specs.Reads.{HasGrown, HasRead, is_of, gets_of}
 use Rattle.load_work.specs.Jobs.{CanRun, HasRun}
 use Rattle.load_work.specs.Deal.{IsDealt, writes_from, reads_from}
 use Rattle.shard_table.specs.Shards.{shard_index}
-use Rattle.load_work.proofs.Lists.{any_default, filter_passed_over, get_part, or_part, one_less}
+use Rattle.load_work.proofs.Lists.{any_default, filter_passed_over, get_part, or_part}
 use Rattle.load_work.proofs.Answered.{each_with_itself, each_partner, grown_same, rises_alone}
 
 module _ (table : TableAt) (puts : List BatchPut) (gets : List BatchGet) where

@@ -3,7 +3,7 @@ use Rattle.std.specs.Global.{Vec}
 use Rattle.std.proofs.lemmas.Option.{slice_get_within}
 use Rattle.std.proofs.lemmas.List.{take_all}
 use Rattle.shard_table.specs.Seats.{AreEach}
-use Rattle.std.proofs.Common.{◌≡◌, ◌≢◌, ◌⊎◌, set, ℕ, zero, suc, ◌+◌, ◌<◌, Bool, true, false, cond, List, [], ◌∷◌, ◌++◌, length, take, drop, filter, vec_len, slice_get, slice_index_or, Some, inl, inr, refl, sym, ap, ◌∙◌, append-nil, append_assoc, arith}
+use Rattle.std.proofs.Common.{◌≡◌, ◌≢◌, ◌⊎◌, set, ℕ, zero, suc, ◌+◌, ◌<◌, Bool, true, false, cond, List, [], ◌∷◌, ◌++◌, length, take, drop, filter, vec_len, slice_get, slice_index_or, Some, inl, inr, refl, ap, ◌∙◌, append-nil, append_assoc, arith}
 
 one_more : (k : ℕ) → k + 1 ≡ suc k
 one_more k = omega arith
@@ -139,6 +139,7 @@ whole_again r xs n e f = rest_none xs r n e f
     none_left [] (suc n) e = refl
     none_left (x ∷ xs) zero e = absurd (omega arith)
     none_left (x ∷ xs) (suc n) e = none_left xs n (omega arith)
+
     rest_none : {X : Type 0} (xs r : List X) (n : ℕ) → n ≡ length xs → length r ≡ length xs → take n (r ++ drop (length r) xs) ≡ r
     rest_none xs r n e f = ap (λ (l : List _). take n (r ++ l)) (none_left xs (length r) f) ∙ ap (take n) (append-nil r) ∙ take_all n r (omega (arith, e, f))
 

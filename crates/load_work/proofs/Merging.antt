@@ -1,6 +1,6 @@
 -- The answers of all readers, put into the order of the gets from the last one on.
-use Rattle.std.proofs.Common.{rules, ◌≡◌, ◌≢◌, ◌⊎◌, ℕ, zero, suc, ◌+◌, ◌<◌, ◌≤◌, Bool, true, false, cond, List, [], ◌∷◌, ◌++◌, length, take, drop, set, All, vec_len, slice_get, slice_index_or, Some, inl, inr, refl, sym, ap, ◌∙◌, subst, length-append, append_assoc, arith}
-use Rattle.std.specs.Prelude.{reverse, nat_eq}
+use Rattle.std.proofs.Common.{rules, ◌≡◌, ◌≢◌, ◌⊎◌, ℕ, zero, suc, ◌<◌, Bool, true, false, cond, List, [], ◌∷◌, ◌++◌, length, take, drop, set, All, vec_len, slice_get, slice_index_or, Some, inl, inr, sym, ap, ◌∙◌, subst, length-append, append_assoc, arith}
+use Rattle.std.specs.Prelude.{reverse}
 use Rattle.std.specs.Global.{Vec}
 use Rattle.std.proofs.lemmas.List.{reverse-append, length-reverse}
 use Rattle.std.proofs.lemmas.Option.{slice_get-get_or, slice_get_within}
@@ -60,9 +60,9 @@ module _ (gets : List BatchGet) (m : ℕ) (g : BatchGet) (at : slice_get gets m 
             let first : slice_get firsts g.reader ≡ Some all = subst (λ (n : ℕ). slice_get firsts n ≡ Some all) h.0 from in
             let rest = answers_of g.reader (drop (suc m) gets) (reverse answers) in
             let one : all.items ≡ new.items ++ answers_of g.reader (drop m gets) (reverse (answers ++ a ∷ [])) =
-                was g.reader all old first there ∙ ap (λ (l : List Answer). l ++ rest) popped ∙ append_assoc new.items (a ∷ []) rest ∙ ap (λ (l : List Answer). new.items ++ l) (sym own_answers) in
+            was g.reader all old first there ∙ ap (λ (l : List Answer). l ++ rest) popped ∙ append_assoc new.items (a ∷ []) rest ∙ ap (λ (l : List Answer). new.items ++ l) (sym own_answers) in
             subst (λ (n : ℕ). all.items ≡ list.items ++ answers_of n (drop m gets) (reverse (answers ++ a ∷ []))) (sym h.0)
-                (subst (λ (l : Vec Answer). all.items ≡ l.items ++ answers_of g.reader (drop m gets) (reverse (answers ++ a ∷ []))) h.1 one)
+            (subst (λ (l : Vec Answer). all.items ≡ l.items ++ answers_of g.reader (drop m gets) (reverse (answers ++ a ∷ []))) h.1 one)
         each_case q all list from (inr h) = was q all list from h.1 ∙ ap (λ (l : List Answer). list.items ++ l) (sym (other_answers q h.0))
 
         pub merged_more : (q : ℕ) (all list : Vec Answer) → slice_get firsts q ≡ Some all → slice_get (set lists g.reader new) q ≡ Some list → all.items ≡ list.items ++ answers_of q (drop m gets) (reverse (answers ++ a ∷ []))
@@ -95,7 +95,7 @@ module _ (gets : List BatchGet) (m k : ℕ) (e : k ≡ suc m) (d : BatchGet) (le
     next_merged longer is was q all list from to =
         subst (λ (l : List Answer). all.items ≡ list.items ++ answers_of q (drop m gets) (reverse l)) (sym is)
         (merged_more gets m get get_at answers a lists.items old new list_there popped firsts.items
-            (λ p all' list' from' to'. subst (λ (n : ℕ). all'.items ≡ list'.items ++ answers_of p (drop n gets) (reverse answers)) e (was p all' list' from' to')) q all list from to)
+        (λ p all' list' from' to'. subst (λ (n : ℕ). all'.items ≡ list'.items ++ answers_of p (drop n gets) (reverse answers)) e (was p all' list' from' to')) q all list from to)
 
 -- each answer is taken
 pub all_merged : (gets : List BatchGet) (firsts lists : Vec (Vec Answer)) (answers turned : List Answer) (k : ℕ) → k ≡ 0 → turned ≡ reverse answers → vec_len lists ≡ vec_len firsts → length answers ≡ length (drop k gets)

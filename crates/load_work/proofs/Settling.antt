@@ -1,9 +1,8 @@
 -- What is done where all threads are joined, one step after the other.
-use Rattle.std.proofs.Common.{◌≡◌, ◌≢◌, ◌⊎◌, ℕ, suc, ◌+◌, ◌<◌, ◌≤◌, List, [], ◌∷◌, All, vec_len, length, take, min, set, slice_get, slice_index_or, Some, inl, inr, refl, sym, ap, ◌∙◌, subst, arith}
+use Rattle.std.proofs.Common.{◌≡◌, ◌≢◌, ◌⊎◌, ℕ, ◌+◌, ◌<◌, List, All, vec_len, length, set, slice_get, slice_index_or, Some, inl, inr, sym, ◌∙◌, subst, arith}
 use Rattle.std.specs.Global.{Vec}
 use Rattle.std.specs.Vec.{with_items}
 use Rattle.std.proofs.lemmas.Option.{slice_get-get_or, get_or_from_slice_get, slice_get_within}
-use Rattle.trie_image.specs.Puts.{HasLastPut}
 use Rattle.trie_rule.specs.Seats.{CellsAt, WriterAt, ReaderAt}
 use Rattle.trie_writer.specs.Written.{MayWrite}
 use Rattle.trie_reader.specs.Read.{MayRead}
@@ -77,28 +76,28 @@ readers_same readers q old new a b = let e : old ≡ new = cc in subst (λ (v : 
 
 -- one reader more has learnt
 module _ (shards : List CellsAt) (writers : List WriterAt) (first readers : List (Vec ReaderAt)) (q : ℕ) (d new : Vec ReaderAt) (less : q < length readers) (free : AreEach IsFreeReader shards new.items) (more : AreEach HasGrown (slice_index_or readers q d).items new.items)
-    where
-  pub reading_more : All (λ (s : Vec ReaderAt). AreEach IsFreeReader shards s.items) readers → All (λ (s : Vec ReaderAt). AreEach IsFreeReader shards s.items) (set readers q new)
-  reading_more all k e inside = by (set_cases readers q k new (slice_index_or (set readers q new) k e) (slice_get-get_or (set readers q new) k e inside))
-    where
-      by : ((k ≡ q) × (new ≡ slice_index_or (set readers q new) k e)) ⊎ ((k ≢ q) × (slice_get readers k ≡ Some (slice_index_or (set readers q new) k e))) → AreEach IsFreeReader shards (slice_index_or (set readers q new) k e).items
-      by (inl h) = subst (λ (v : Vec ReaderAt). AreEach IsFreeReader shards v.items) h.1 free
-      by (inr h) = subst (λ (v : Vec ReaderAt). AreEach IsFreeReader shards v.items) (get_or_from_slice_get readers k (slice_index_or (set readers q new) k e) e h.1) (all k e (slice_get_within readers k (slice_index_or (set readers q new) k e) h.1))
+  where
+    pub reading_more : All (λ (s : Vec ReaderAt). AreEach IsFreeReader shards s.items) readers → All (λ (s : Vec ReaderAt). AreEach IsFreeReader shards s.items) (set readers q new)
+    reading_more all k e inside = by (set_cases readers q k new (slice_index_or (set readers q new) k e) (slice_get-get_or (set readers q new) k e inside))
+      where
+        by : ((k ≡ q) × (new ≡ slice_index_or (set readers q new) k e)) ⊎ ((k ≢ q) × (slice_get readers k ≡ Some (slice_index_or (set readers q new) k e))) → AreEach IsFreeReader shards (slice_index_or (set readers q new) k e).items
+        by (inl h) = subst (λ (v : Vec ReaderAt). AreEach IsFreeReader shards v.items) h.1 free
+        by (inr h) = subst (λ (v : Vec ReaderAt). AreEach IsFreeReader shards v.items) (get_or_from_slice_get readers k (slice_index_or (set readers q new) k e) e h.1) (all k e (slice_get_within readers k (slice_index_or (set readers q new) k e) h.1))
 
-  pub readers_more : ReadersHaveGrown first readers → ReadersHaveGrown first (set readers q new)
-  readers_more was p old now a b = by (set_cases readers q p new now b)
-    where
-      by : ((p ≡ q) × (new ≡ now)) ⊎ ((p ≢ q) × (slice_get readers p ≡ Some now)) → AreEach HasGrown old.items now.items
-      by (inl h) =
-          let old_at : slice_get first q ≡ Some old = subst (λ (n : ℕ). slice_get first n ≡ Some old) h.0 a in
-          let was' = was q old (slice_index_or readers q d) old_at (slice_get-get_or readers q d less) in
-          subst (λ (v : Vec ReaderAt). AreEach HasGrown old.items v.items) h.1 (each_chain HasGrown old.items (slice_index_or readers q d).items new.items grown_on was' more)
-      by (inr h) = was p old now a h.1
+    pub readers_more : ReadersHaveGrown first readers → ReadersHaveGrown first (set readers q new)
+    readers_more was p old now a b = by (set_cases readers q p new now b)
+      where
+        by : ((p ≡ q) × (new ≡ now)) ⊎ ((p ≢ q) × (slice_get readers p ≡ Some now)) → AreEach HasGrown old.items now.items
+        by (inl h) =
+            let old_at : slice_get first q ≡ Some old = subst (λ (n : ℕ). slice_get first n ≡ Some old) h.0 a in
+            let was' = was q old (slice_index_or readers q d) old_at (slice_get-get_or readers q d less) in
+            subst (λ (v : Vec ReaderAt). AreEach HasGrown old.items v.items) h.1 (each_chain HasGrown old.items (slice_index_or readers q d).items new.items grown_on was' more)
+        by (inr h) = was p old now a h.1
 
-  pub all_learnt_more : AreEach HasLearnt writers new.items → ((p : ℕ) (seats : Vec ReaderAt) → p < q → slice_get readers p ≡ Some seats → AreEach HasLearnt writers seats.items)
-      → (p : ℕ) (seats : Vec ReaderAt) → p < q + 1 → slice_get (set readers q new) p ≡ Some seats → AreEach HasLearnt writers seats.items
-  all_learnt_more now was p seats le at = by (set_cases readers q p new seats at)
-    where
-      by : ((p ≡ q) × (new ≡ seats)) ⊎ ((p ≢ q) × (slice_get readers p ≡ Some seats)) → AreEach HasLearnt writers seats.items
-      by (inl h) = subst (λ (v : Vec ReaderAt). AreEach HasLearnt writers v.items) h.1 now
-      by (inr h) = was p seats (omega (arith, h.0, le)) h.1
+    pub all_learnt_more : AreEach HasLearnt writers new.items → ((p : ℕ) (seats : Vec ReaderAt) → p < q → slice_get readers p ≡ Some seats → AreEach HasLearnt writers seats.items)
+        → (p : ℕ) (seats : Vec ReaderAt) → p < q + 1 → slice_get (set readers q new) p ≡ Some seats → AreEach HasLearnt writers seats.items
+    all_learnt_more now was p seats le at = by (set_cases readers q p new seats at)
+      where
+        by : ((p ≡ q) × (new ≡ seats)) ⊎ ((p ≢ q) × (slice_get readers p ≡ Some seats)) → AreEach HasLearnt writers seats.items
+        by (inl h) = subst (λ (v : Vec ReaderAt). AreEach HasLearnt writers v.items) h.1 now
+        by (inr h) = was p seats (omega (arith, h.0, le)) h.1

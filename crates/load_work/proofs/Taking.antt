@@ -1,11 +1,9 @@
 -- What the workers left, taken back one after the other.
-use Rattle.std.proofs.Common.{◌≡◌, ◌⊎◌, ℕ, zero, suc, ◌+◌, ◌<◌, ◌≤◌, List, [], ◌∷◌, ◌++◌, length, take, drop, min, vec_len, slice_get, Option, Some, None, Result, Ok, IfSome, IfOk, All, inl, inr, refl, sym, ap, ◌∙◌, subst, length-append, append-nil, arith}
+use Rattle.std.proofs.Common.{◌≡◌, ◌⊎◌, ℕ, zero, suc, ◌≤◌, List, [], ◌∷◌, ◌++◌, length, take, drop, min, vec_len, slice_get, Option, Some, None, Ok, IfSome, All, inl, inr, refl, sym, ap, ◌∙◌, subst, length-append, arith}
 use Rattle.std.specs.Global.{Vec}
-use Rattle.std.proofs.Math.Nat.{min-eq_left, min-eq_right}
-use Rattle.std.proofs.lemmas.List.{length-take-le, take_all}
+use Rattle.std.proofs.lemmas.List.{length-take-le}
 use Rattle.std.proofs.lemmas.Option.{slice_get_within, IfSome_then}
 use Rattle.trie_rule.specs.Seats.{CellsAt, WriterAt, ReaderAt}
-use Rattle.trie_rule.specs.declared.views.WriteView.{WriteView}
 use Rattle.shard_table.specs.Seats.{TableAt, AreEach, IsFreeWriter, IsFreeReader}
 use Rattle.shard_table.proofs.Each.{each_last, each_length, all_more}
 use Rattle.load_work.specs.declared.batch.BatchPut.{BatchPut}
@@ -16,7 +14,6 @@ use Rattle.load_work.specs.declared.jobs.Job.TheVariants.{Write, Read}
 use Rattle.load_work.specs.declared.jobs.Done.{Done}
 use Rattle.load_work.specs.declared.jobs.Done.TheVariants as done
 use Rattle.load_work.specs.Puts.{HasWritten}
-use Rattle.load_work.specs.Reads.{HasGrown, HasRead, AnswersRise, gets_of}
 use Rattle.load_work.specs.Jobs.{CanRun, HasRun, EachHasRun}
 use Rattle.load_work.specs.Deal.{IsDealt, IsLeft, writes_from, reads_from, earlier_line, IsNoLater, HaveWritten, ReaderHasRead, HaveRead}
 use Rattle.load_work.proofs.Lists.{each_by_place, taken, dropped, old_or_last, pair_old_or_last, get_part, get_before}
@@ -95,6 +92,7 @@ either_line P (Some a) (Some b) f g = by (min_is a b)
         up : (min a b ≡ a) ⊎ (min a b ≡ b) → (min (suc a) (suc b) ≡ suc a) ⊎ (min (suc a) (suc b) ≡ suc b)
         up (inl e) = inl (omega (arith, e))
         up (inr e) = inr (omega (arith, e))
+
     by : (min a b ≡ a) ⊎ (min a b ≡ b) → P (min a b)
     by (inl e) = subst P (sym e) f
     by (inr e) = subst P (sym e) g

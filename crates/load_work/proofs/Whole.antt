@@ -1,7 +1,7 @@
 -- A whole batch: what its workers left makes its answers, and its refusal.
-use Rattle.std.proofs.Common.{◌≡◌, ◌⊎◌, ℕ, zero, suc, ◌+◌, ◌<◌, ◌≤◌, List, [], ◌∷◌, ◌++◌, length, take, min, vec_len, slice_get, slice_index_or, Option, Some, None, IfSome, All, inl, inr, refl, sym, ap, ◌∙◌, subst, length-append, arith}
+use Rattle.std.proofs.Common.{◌≡◌, ℕ, zero, suc, ◌<◌, ◌≤◌, List, [], ◌∷◌, ◌++◌, length, take, vec_len, slice_get, Option, Some, None, IfSome, All, refl, sym, ap, ◌∙◌, subst, length-append, arith}
 use Rattle.std.specs.Global.{Vec}
-use Rattle.std.proofs.lemmas.Option.{slice_get-get_or, get_or_from_slice_get, slice_get_within, IfSome_then}
+use Rattle.std.proofs.lemmas.Option.{get_or_from_slice_get, slice_get_within, IfSome_then}
 use Rattle.trie_image.specs.declared.Put.{Put}
 use Rattle.trie_image.specs.declared.Rec.{Rec}
 use Rattle.trie_image.specs.Puts.{HasLastPut}
@@ -19,9 +19,9 @@ use Rattle.load_work.specs.declared.batch.BatchGet.{BatchGet}
 use Rattle.load_work.specs.declared.batch.Answer.{Answer}
 use Rattle.load_work.specs.Puts.{Makes, StopsAt, HasNoRoom, HasWritten, after_put, puts_of}
 use Rattle.load_work.specs.Reads.{HasGrown, IsAnswered, AnswersTo, HasRead, AnswersRise, gets_of}
-use Rattle.load_work.specs.Deal.{IsNoLater, HaveWritten, ReaderHasRead, HaveRead}
+use Rattle.load_work.specs.Deal.{IsNoLater, HaveWritten, HaveRead}
 use Rattle.load_work.specs.Merge.{answers_of, IsMerge, ReadersHaveGrown, CanBeBounded, IsBounded}
-use Rattle.load_work.specs.Work.{HasLearnt, HaveLearnt, HaveMade, HaveTried, IsGetBelow, IsLegal, IsAnswerOf, ReadsRise, IsFullAt, IsFirstFull, NoneIsFull, IsFoundFrom}
+use Rattle.load_work.specs.Work.{HasLearnt, HaveLearnt, IsGetBelow, IsLegal, IsAnswerOf, ReadsRise, IsFullAt, IsFirstFull, NoneIsFull}
 use Rattle.load_work.proofs.Lists.{each_by_place, item_at, get_before}
 use Rattle.load_work.proofs.Answered.{answered_longer, each_other}
 use Rattle.load_work.proofs.Merging.{of_all, places}
@@ -78,9 +78,11 @@ module _ (table : TableAt) (puts : List BatchPut) (w : Workers) (after : List Wr
     where
       h : (i : ℕ) × (s t : WriterAt) × (slice_get w.writers.items i ≡ Some s) × HasWritten table.bounds i s.knows t.knows puts (Some line)
       h = subst (λ (o : Option ℕ). IfSome o (λ line. (i : ℕ) × (s t : WriterAt) × (slice_get w.writers.items i ≡ Some s) × HasWritten table.bounds i s.knows t.knows puts (Some line))) is written.first_is
+
       by : (i other : ℕ) (s : WriterAt) (t : WriteView) (u : WriterAt) → StopsAt s.knows (puts_of table.bounds i puts) other t → (full : Option ℕ) → HasWritten table.bounds i s.knows u.knows puts full → IsNoLater (Some line) full → line ≤ other
       by i other s t u stop None made l = absurd (never_full s.knows u.knows t (puts_of table.bounds i puts) other made stop)
       by i other s t u stop (Some own) made l = omega (arith, l, same_line s.knows u.knows t (puts_of table.bounds i puts) own other made stop)
+
       least : (i other : ℕ) → IsFullAt table.bounds puts w i other → line ≤ other
       least i other (s, t, at, stop) =
           let o = other_seat i s at in let f = written.each i s o.0 at o.1 in
@@ -240,10 +242,10 @@ module _ (table : TableAt) (puts : List BatchPut) (gets : List BatchGet) (start 
     seen_after g a b n bound =
         let w = item_at now.writers.items a.shard n.inside in
         let row_at : slice_get after.readers.items b.reader ≡ Some n.row =
-            subst (λ (v : Vec (Vec ReaderAt)). slice_get v.items b.reader ≡ Some n.row) (sym readers_are) (subst (λ (q : ℕ). slice_get now.readers.items q ≡ Some n.row) (sym (bound.reader ∙ n.names.reader)) n.row_at) in
+        subst (λ (v : Vec (Vec ReaderAt)). slice_get v.items b.reader ≡ Some n.row) (sym readers_are) (subst (λ (q : ℕ). slice_get now.readers.items q ≡ Some n.row) (sym (bound.reader ∙ n.names.reader)) n.row_at) in
         let seat_at : slice_get n.row.items b.shard ≡ Some n.after = subst (λ (i : ℕ). slice_get n.row.items i ≡ Some n.after) (sym bound.shard) n.after_at in
         IfSome_then b.hit (hit_seen b.hit b.at w.0.knows.made n.after.knows.seen g.key.now (bound.map w.0 w.1) (n.knows w.0 w.1).seen)
-            (λ rec seen. the_seat (λ (seat : ReaderAt). IsSeenRecord seat.knows.seen rec) after b.reader b.shard n.row n.after row_at seat_at seen)
+        (λ rec seen. the_seat (λ (seat : ReaderAt). IsSeenRecord seat.knows.seen rec) after b.reader b.shard n.row n.after row_at seat_at seen)
 
     module _ (answers : List Answer) (long : length answers ≡ length merged) (bounded : (i : ℕ) (g : BatchGet) (a b : Answer) → slice_get gets i ≡ Some g → slice_get merged i ≡ Some a → slice_get answers i ≡ Some b → IsBounded now.writers.items g a b) where
       pub all_answered : AreEach (IsAnswerOf table.bounds start after) gets answers

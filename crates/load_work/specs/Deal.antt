@@ -1,5 +1,5 @@
 -- The workers of a table dealt out as jobs, and what they left. This project's own.
-use Rattle.std.specs.Prelude.{◌≡◌, ◌⊎◌, ◌≤◌, ◌<◌, ℕ, suc, min, List, [], ◌∷◌, ◌++◌, length, slice_get, Option, Some, None, IfSome, All}
+use Rattle.std.specs.Prelude.{◌≡◌, ◌⊎◌, ◌≤◌, ℕ, suc, min, List, [], ◌∷◌, ◌++◌, length, slice_get, Option, Some, None, IfSome, All}
 use Rattle.std.specs.Global.{Vec}
 use Rattle.trie_rule.specs.Seats.{CellsAt, WriterAt, ReaderAt}
 use Rattle.shard_table.specs.declared.workers.Workers.{Workers}
@@ -34,9 +34,9 @@ abbrev pub IsDealt : TableAt → List BatchPut → List BatchGet → List Job �
 IsDealt table puts gets [] jobs places = (jobs ≡ []) × (places ≡ [])
 IsDealt table puts gets (worker ∷ workers) jobs places =
     ((others : List (Option Done)) × (done : Done) × (places ≡ others ++ Some done ∷ []) × HasRun table puts gets worker done
-        × IsDealt table puts gets workers jobs others)
+    × IsDealt table puts gets workers jobs others)
     ⊎ ((others : List (Option Done)) × (more : List Job) × (places ≡ others ++ None ∷ []) × (jobs ≡ more ++ worker ∷ [])
-        × CanRun table worker × IsDealt table puts gets workers more others)
+    × CanRun table worker × IsDealt table puts gets workers more others)
 
 -- what these workers left is in these places, or is what their jobs left
 abbrev pub IsLeft : TableAt → List BatchPut → List BatchGet → List Job → List Done → List (Option Done) → Type 0

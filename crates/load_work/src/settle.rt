@@ -87,12 +87,7 @@ pub(crate) fn learn_all(
 }
 
 /// The answer to the get, bounded by the puts made.
-fn bound(
-    table: &ShardTable,
-    writers: &mut [WriteSeat],
-    get: &BatchGet,
-    answer: Answer,
-) -> Answer
+fn bound(table: &ShardTable, writers: &mut [WriteSeat], get: &BatchGet, answer: Answer) -> Answer
     requires writing { AreEach IsFreeWriter table.now.shards writers.old }
     requires get { IsGet get.now }
     requires can { CanBeBounded writers.old get.now answer }

@@ -1,4 +1,4 @@
-use Rattle.std.proofs.Common.{rules, ◌≡◌, ℕ, ◌+◌, ◌≤◌, true, List, [], ◌∷◌, ◌++◌, take, slice_get, slice_index_or, Some, sym, subst, arith}
+use Rattle.std.proofs.Common.{rules, ◌≡◌, ◌+◌, true, List, [], ◌∷◌, ◌++◌, take, slice_index_or, sym, subst, arith}
 use Rattle.shard_table.specs.Seats.{AreEach}
 use Rattle.load_work.specs.declared.batch.BatchGet.{BatchGet}
 use Rattle.load_work.specs.declared.batch.Answer.{Answer}

@@ -1,4 +1,4 @@
-use Rattle.std.proofs.Common.{◌≡◌, ◌<◌, length, min, take, slice_index_or, refl, ap, ◌∙◌, subst, arith}
+use Rattle.std.proofs.Common.{length, min, take, slice_index_or, refl, ap, ◌∙◌, subst, arith}
 use Rattle.std.proofs.lemmas.Option.{slice_get-get_or, get_or_from_slice_get}
 use Rattle.trie_image.specs.Puts.{HasLastPut}
 use Rattle.trie_rule.specs.Seats.{WriterAt}

@@ -1,9 +1,7 @@
-use Rattle.std.proofs.Common.{◌≡◌, ◌<◌, ◌≤◌, ℕ, List, length, set, slice_index_or, sym, ap, ◌∙◌, subst, length-set, arith}
+use Rattle.std.proofs.Common.{◌<◌, length, ◌∙◌, length-set, arith}
 use Rattle.std.proofs.lemmas.Option.{slice_get_within}
-use Rattle.trie_rule.specs.Seats.{WriterAt}
-use Rattle.shard_table.proofs.Each.{each_length, each_index}
-use Rattle.load_work.specs.declared.batch.Answer.{Answer}
-use Rattle.load_work.specs.Merge.{CanBeBounded, IsBounded}
+use Rattle.shard_table.proofs.Each.{each_length}
+use Rattle.load_work.specs.Merge.{CanBeBounded}
 use Rattle.load_work.proofs.Lists.{set_beside}
 use Rattle.load_work.proofs.Settling.{can_now, bounded_more}
 use Rattle.load_work.proofs.settle.bound_all.Goals as goal

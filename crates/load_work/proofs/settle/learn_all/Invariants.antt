@@ -2,7 +2,6 @@ use Rattle.std.proofs.Common.{◌≡◌, ℕ, ◌<◌, Some, All, slice_get, len
 use Rattle.std.specs.Global.{Vec}
 use Rattle.trie_rule.specs.Seats.{ReaderAt}
 use Rattle.shard_table.specs.Seats.{AreEach, IsFreeReader}
-use Rattle.load_work.specs.Reads.{HasGrown}
 use Rattle.load_work.specs.Work.{HasLearnt}
 use Rattle.load_work.specs.Merge.{ReadersHaveGrown}
 use Rattle.load_work.proofs.settle.learn_all.Given as goal

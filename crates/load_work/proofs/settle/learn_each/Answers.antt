@@ -1,7 +1,7 @@
 use Rattle.std.proofs.Common.{◌≡◌, List, length, set, slice_index_or, sym, ap, ◌∙◌, subst, refl, arith}
 use Rattle.std.proofs.lemmas.List.{set-get_or}
 use Rattle.std.proofs.lemmas.Option.{slice_get_within}
-use Rattle.trie_rule.specs.Seats.{WriterAt, ReaderAt}
+use Rattle.trie_rule.specs.Seats.{WriterAt}
 use Rattle.shard_table.specs.Seats.{AreEach, IsFreeWriter, IsFreeReader}
 use Rattle.shard_table.proofs.Each.{each_length}
 use Rattle.load_work.specs.Reads.{HasGrown}

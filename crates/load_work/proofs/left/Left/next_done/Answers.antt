@@ -1,4 +1,4 @@
-use Rattle.std.proofs.Common.{◌≡◌, ◌∷◌, ◌++◌, [], List, Option, None, ap, ◌∙◌}
+use Rattle.std.proofs.Common.{◌≡◌, ◌∷◌, ◌++◌, [], Option, None, ap, ◌∙◌}
 use Rattle.load_work.specs.declared.jobs.Done.{Done}
 use Rattle.load_work.proofs.Lists.{empty_vec}
 use Rattle.load_work.proofs.Taking.{never_none, next_run}

@@ -12,4 +12,4 @@ abbrev pub invariant-readers : goal.invariant-readers
 invariant-readers l = (table : TableAt) (puts : List BatchPut) (gets : List BatchGet) (before : List (Vec ReaderAt)) (workers : List Job) → length before ≡ l.count
     → IsLeft table puts gets (reads_from 0 before ++ workers) l.fn.self.done.items l.fn.self.places.items
     → HaveRead table gets (take l.counter before) l.readers.items l.lists.items
-        × IsLeft table puts gets (reads_from l.counter (drop l.counter before) ++ workers) l.self.done.items l.self.places.items
+    × IsLeft table puts gets (reads_from l.counter (drop l.counter before) ++ workers) l.self.done.items l.self.places.items

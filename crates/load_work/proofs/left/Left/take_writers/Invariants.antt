@@ -11,4 +11,4 @@ abbrev pub invariant-writers : goal.invariant-writers
 invariant-writers l = (table : TableAt) (puts : List BatchPut) (gets : List BatchGet) (before : List WriterAt) (workers : List Job) → length before ≡ l.count
     → IsLeft table puts gets (writes_from 0 before ++ workers) l.fn.self.done.items l.fn.self.places.items
     → HaveWritten table puts (take l.counter before) l.writers.items l.first
-        × IsLeft table puts gets (writes_from l.counter (drop l.counter before) ++ workers) l.self.done.items l.self.places.items
+    × IsLeft table puts gets (writes_from l.counter (drop l.counter before) ++ workers) l.self.done.items l.self.places.items
