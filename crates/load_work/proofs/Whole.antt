@@ -1,5 +1,5 @@
 -- A whole batch: what its workers left makes its answers, and its refusal.
-use Rattle.std.proofs.Common.{◌≡◌, ℕ, zero, suc, ◌<◌, ◌≤◌, List, [], ◌∷◌, ◌++◌, length, take, vec_len, slice_get, Option, Some, None, IfSome, All, refl, sym, ap, ◌∙◌, subst, length-append, arith}
+use Rattle.std.proofs.Common.{◌≡◌, ℕ, zero, suc, ◌<◌, ◌≤◌, List, [], ◌∷◌, ◌++◌, length, take, vec_len, slice_get, slice_index_or, Option, Some, None, IfSome, All, refl, sym, ap, ◌∙◌, subst, length-append, arith}
 use Rattle.std.specs.Global.{Vec}
 use Rattle.std.proofs.lemmas.Option.{get_or_from_slice_get, slice_get_within, IfSome_then}
 use Rattle.trie_image.specs.declared.Put.{Put}
@@ -11,7 +11,7 @@ use Rattle.trie_rule.specs.declared.views.WriteView.{WriteView}
 use Rattle.trie_rule.specs.Seats.{CellsAt, WriterAt, ReaderAt}
 use Rattle.trie_reader.specs.Read.{IsSeenRecord}
 use Rattle.shard_table.specs.declared.workers.Workers.{Workers}
-use Rattle.shard_table.specs.Seats.{TableAt, AreEach, AreWorkers, IsFreeWriter, IsFreeReader, OfSeat}
+use Rattle.shard_table.specs.Seats.{TableAt, AreEach, AreWorkers, IsFreeWriter, IsFreeReader, IsNewWriter, IsNewReader, OfSeat}
 use Rattle.shard_table.proofs.Each.{each_length, each_at}
 use Rattle.shard_table.proofs.Seated.{the_seat}
 use Rattle.load_work.specs.declared.batch.BatchPut.{BatchPut}
@@ -21,7 +21,7 @@ use Rattle.load_work.specs.Puts.{Makes, StopsAt, HasNoRoom, HasWritten, after_pu
 use Rattle.load_work.specs.Reads.{HasGrown, IsAnswered, AnswersTo, HasRead, AnswersRise, gets_of}
 use Rattle.load_work.specs.Deal.{IsNoLater, HaveWritten, HaveRead}
 use Rattle.load_work.specs.Merge.{answers_of, IsMerge, ReadersHaveGrown, CanBeBounded, IsBounded}
-use Rattle.load_work.specs.Work.{HasLearnt, HaveLearnt, IsGetBelow, IsLegal, IsAnswerOf, ReadsRise, IsFullAt, IsFirstFull, NoneIsFull}
+use Rattle.load_work.specs.Work.{LawNewHaveLearnt, HasLearnt, HaveLearnt, IsGetBelow, IsLegal, IsAnswerOf, ReadsRise, IsFullAt, IsFirstFull, NoneIsFull}
 use Rattle.load_work.proofs.Lists.{each_by_place, item_at, get_before}
 use Rattle.load_work.proofs.Answered.{answered_longer, each_other}
 use Rattle.load_work.proofs.Merging.{of_all, places}
@@ -248,12 +248,14 @@ module _ (table : TableAt) (puts : List BatchPut) (gets : List BatchGet) (start 
         (λ rec seen. the_seat (λ (seat : ReaderAt). IsSeenRecord seat.knows.seen rec) after b.reader b.shard n.row n.after row_at seat_at seen)
 
     module _ (answers : List Answer) (long : length answers ≡ length merged) (bounded : (i : ℕ) (g : BatchGet) (a b : Answer) → slice_get gets i ≡ Some g → slice_get merged i ≡ Some a → slice_get answers i ≡ Some b → IsBounded now.writers.items g a b) where
-      pub all_answered : AreEach (IsAnswerOf table.bounds start after) gets answers
-      all_answered = each_by_place (IsAnswerOf table.bounds start after) gets answers (omega (arith, long, ran.merge.len)) (λ i g b at to.
+      pub all_answered : AreEach (IsAnswerOf table start after) gets answers
+      all_answered = each_by_place (IsAnswerOf table start after) gets answers (omega (arith, long, ran.merge.len)) (λ i g b at to.
           let a = item_at merged i (omega (arith, long, slice_get_within answers i b to)) in
           let n = seen_of i g a.0 at a.1 in let bound = bounded i g a.0 b at a.1 to in
           record {
             names = record { line = bound.line ∙ n.names.line; reader = bound.reader ∙ n.names.reader; shard = bound.shard ∙ n.names.shard };
+            inside = omega (arith, writers_long, n.inside, bound.shard);
+            reader = omega (arith, bound.reader, n.names.reader, slice_get_within now.readers.items g.reader n.row n.row_at, ap (λ (v : Vec (Vec ReaderAt)). length v.items) readers_are);
             legal = legal g a.0 b n bound;
             seen = seen_after g a.0 b n bound;
           })
@@ -273,3 +275,17 @@ module _ (table : TableAt) (puts : List BatchPut) (gets : List BatchGet) (start 
           let up : a.0.at ≤ c.0.at = r.rise p.0 p.1 a.0 c.0 p.2 (subst (λ (l : List Answer). slice_get l p.0 ≡ Some a.0) of_list p.3) (subst (λ (l : List Answer). slice_get l p.1 ≡ Some c.0) of_list p.4) shard in
           let w = item_at now.writers.items a.0.shard n.inside in
           omega (arith, up, first_bound.at w.0 w.1, second_bound.at w.0 (subst (λ (k : ℕ). slice_get now.writers.items k ≡ Some w.0) shard w.1))
+
+-- new seats
+new_learnt : (shards : List CellsAt) (writers : List WriterAt) (seats : List ReaderAt) → AreEach IsNewWriter shards writers → AreEach IsNewReader shards seats → AreEach HasLearnt writers seats
+new_learnt [] [] [] a b = tt
+new_learnt [] (w ∷ writers) seats a b = absurd a
+new_learnt [] [] (s ∷ seats) a b = absurd b
+new_learnt (c ∷ shards) [] seats a b = absurd a
+new_learnt (c ∷ shards) (w ∷ writers) [] a b = absurd b
+new_learnt (c ∷ shards) (w ∷ writers) (s ∷ seats) (a, more) (b, others) =
+    let none : w.knows.made ≡ [] = ap (λ (v : WriteView). v.made) a.knows in
+    (record { seen = ([], b.seen ∙ ap (λ (l : List Put). l ++ []) (sym none)); front = omega (arith, ap length none) }, new_learnt shards writers seats more others)
+
+pub new_have_learnt : LawNewHaveLearnt
+new_have_learnt shards w writers readers k d less = new_learnt shards w.writers.items (slice_index_or w.readers.items k d).items writers (readers k d less)

@@ -9,7 +9,7 @@ use Rattle.trie_rule.specs.Rule.{IsStartOf}
 use Rattle.trie_rule.specs.Seats.{CellsAt, WriterAt, ReaderAt}
 use Rattle.trie_reader.specs.Read.{IsSeenRecord}
 use Rattle.shard_table.specs.declared.workers.Workers.{Workers}
-use Rattle.shard_table.specs.Seats.{AreEach, AreWorkers, OfSeat}
+use Rattle.shard_table.specs.Seats.{TableAt, AreEach, AreWorkers, IsNewWriter, IsNewReader, OfSeat}
 use Rattle.load_work.specs.declared.batch.BatchPut.{BatchPut}
 use Rattle.load_work.specs.declared.batch.BatchGet.{BatchGet}
 use Rattle.load_work.specs.declared.batch.Answer.{Answer}
@@ -42,9 +42,11 @@ pub record IsLegal (made made' : List Put) (g : BatchGet) (a : Answer) : Type 0 
   pub most : a.at ≤ length made'
   pub map : HasLastPut (take a.at made') g.key.now a.hit
 
--- the answer is that of the get, legal for its shard's puts, and its record is one that its reader has seen
-pub record IsAnswerOf (bounds : List (List ℕ)) (before after : Workers) (g : BatchGet) (a : Answer) : Type 0 where
-  pub names : AnswersTo bounds g a
+-- the answer is that of the get, by a seat that is there, legal for its shard's puts, and its record is one that this seat has seen
+pub record IsAnswerOf (table : TableAt) (before after : Workers) (g : BatchGet) (a : Answer) : Type 0 where
+  pub names : AnswersTo table.bounds g a
+  pub inside : a.shard < length table.shards
+  pub reader : a.reader < length after.readers.items
   pub legal : (s t : WriterAt) → slice_get before.writers.items a.shard ≡ Some s → slice_get after.writers.items a.shard ≡ Some t
       → IsLegal s.knows.made t.knows.made g a
   pub seen : IfSome a.hit (λ rec. OfSeat (λ seat. IsSeenRecord seat.knows.seen rec) after a.reader a.shard)
@@ -82,3 +84,8 @@ LeavesWorkers shards w (Ok answers) = AreWorkers shards w
 -- some list of puts that begins with those made has this at the key after its first `at`
 abbrev pub IsFoundFrom : List Put → List ℕ → Option Rec → ℕ → Type 0
 IsFoundFrom made key hit at = (seen : List Put) × IsStartOf made seen × (at ≤ length seen) × HasLastPut (take at seen) key hit
+
+-- readers of new shards know all puts that were made there: none
+abbrev pub LawNewHaveLearnt : Type 0
+LawNewHaveLearnt = (shards : List CellsAt) (w : Workers) → AreEach IsNewWriter shards w.writers.items
+    → All (λ seats. AreEach IsNewReader shards seats.items) w.readers.items → HaveLearnt w

@@ -3,6 +3,8 @@
 //! Each shard with puts has a writer and each reader with gets walks beside it; all are joined before an answer is given.
 #![tactic(auto)]
 
+ghost use Rattle.load_work.specs.Work.{LawNewHaveLearnt};
+
 mod batch;
 mod deal;
 mod jobs;
@@ -15,3 +17,8 @@ mod write;
 
 pub use batch::{Answer, BatchGet, BatchPut};
 pub use work::{LoadError, run_batch};
+
+/// The readers of a new table know all puts that were made there.
+pub fn law_new_have_learnt()
+    ensures { LawNewHaveLearnt }
+{}

@@ -98,7 +98,7 @@ pub fn run_batch<R: Threads + Sync, G: Gate>(
     ensures made { IfOk result (λ _. HaveMade table.now.bounds puts.now workers.old workers.new) }
     ensures learnt { IfOk result (λ _. HaveLearnt workers.new) }
     ensures answers { IfOk result (λ answers.
-        AreEach (IsAnswerOf table.now.bounds workers.old workers.new) gets.now answers.items) }
+        AreEach (IsAnswerOf table.now workers.old workers.new) gets.now answers.items) }
     ensures rise { IfOk result (λ answers. ReadsRise answers.items) }
     ensures room { IfOk result (λ _. NoneIsFull table.now.bounds puts.now workers.old) }
     ensures full { (line : ℕ) → result ≡ Err (load_error.Full line) →

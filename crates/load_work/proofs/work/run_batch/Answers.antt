@@ -86,7 +86,7 @@ returns-clause-answers g c =
     let after : Workers = record { writers = with_items now.writers c.bound_all.new.writers; readers = now.readers } in
     let writers_are : after.writers.items ≡ now.writers.items = written_again now.writers c.bound_all.new.writers (ap length writers) ∙ writers in
     let whole : take c.in_ok-answers.answers.len (answers ++ drop (length answers) merged) ≡ answers = whole_again answers merged c.in_ok-answers.answers.len c.in_ok-answers.answers.ok.0 long in
-    subst (AreEach (IsAnswerOf table.bounds start after) gets) (sym whole) (all_answered table puts gets start mid now lists first merged ran after writers_are refl answers long bounded)
+    subst (AreEach (IsAnswerOf table start after) gets) (sym whole) (all_answered table puts gets start mid now lists first merged ran after writers_are refl answers long bounded)
 
 pub returns-clause-rise : goal.returns-clause-rise
 returns-clause-rise g c =
