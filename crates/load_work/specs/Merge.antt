@@ -22,8 +22,8 @@ pub record IsMerge (gets : List BatchGet) (lists : List (Vec Answer)) (answers :
 
 -- each reader's seats have seen at least what they had
 abbrev pub ReadersHaveGrown : List (Vec ReaderAt) → List (Vec ReaderAt) → Type 0
-ReadersHaveGrown before after = (q : ℕ) (old new : Vec ReaderAt) → slice_get before q ≡ Some old → slice_get after q ≡ Some new
-    → AreEach HasGrown old.items new.items
+ReadersHaveGrown before after = (q : ℕ) (old new : Vec ReaderAt) → slice_get before q ≡ Some old
+    → slice_get after q ≡ Some new → AreEach HasGrown old.items new.items
 
 -- the answer was found in some list of puts that begins with those made by the writer of its shard
 pub record CanBeBounded (writers : List WriterAt) (g : BatchGet) (a : Answer) : Type 0 where

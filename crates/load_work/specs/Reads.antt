@@ -26,8 +26,8 @@ pub record HasGrown (s t : ReaderAt) : Type 0 where
   pub seen : IsStartOf s.knows.seen t.knows.seen
   pub front : s.knows.reader.front ≤ t.knows.reader.front
 
--- the answer to the get by a seat that was s before and is t after: what the shard's map had at the key after its first `at`
--- puts, which the seat has seen, and no fewer than it knew of before
+-- the answer to the get by a seat that was s before and is t after: what the shard's map had at the key after its first
+-- `at` puts, which the seat has seen, and no fewer than it knew of before
 pub record IsAnswered (s t : ReaderAt) (g : BatchGet) (a : Answer) : Type 0 where
   pub least : s.knows.reader.front ≤ a.at
   pub most : a.at ≤ t.knows.reader.front

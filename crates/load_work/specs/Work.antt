@@ -36,19 +36,20 @@ abbrev pub HaveMade : List (List ℕ) → List BatchPut → Workers → Workers 
 HaveMade bounds puts before after = (i : ℕ) (s t : WriterAt) → slice_get before.writers.items i ≡ Some s
     → slice_get after.writers.items i ≡ Some t → Makes s.knows (puts_of bounds i puts) t.knows
 
--- between the puts made before the batch and those made with it: what the map of the first `at` puts has at the get's key
+-- what the map of the first `at` puts has at the get's key; `at` lies between the puts made before and those made now
 pub record IsLegal (made made' : List Put) (g : BatchGet) (a : Answer) : Type 0 where
   pub least : length made ≤ a.at
   pub most : a.at ≤ length made'
   pub map : HasLastPut (take a.at made') g.key.now a.hit
 
--- the answer is that of the get, by a seat that is there, legal for its shard's puts, and its record is one that this seat has seen
+-- the answer is that of the get, by a seat that is there; it is legal for its shard's puts, and its record is one that
+-- this seat has seen
 pub record IsAnswerOf (table : TableAt) (before after : Workers) (g : BatchGet) (a : Answer) : Type 0 where
   pub names : AnswersTo table.bounds g a
   pub inside : a.shard < length table.shards
   pub reader : a.reader < length after.readers.items
-  pub legal : (s t : WriterAt) → slice_get before.writers.items a.shard ≡ Some s → slice_get after.writers.items a.shard ≡ Some t
-      → IsLegal s.knows.made t.knows.made g a
+  pub legal : (s t : WriterAt) → slice_get before.writers.items a.shard ≡ Some s
+      → slice_get after.writers.items a.shard ≡ Some t → IsLegal s.knows.made t.knows.made g a
   pub seen : IfSome a.hit (λ rec. OfSeat (λ seat. IsSeenRecord seat.knows.seen rec) after a.reader a.shard)
 
 -- answers to one reader at one shard don't fall
@@ -83,7 +84,8 @@ LeavesWorkers shards w (Ok answers) = AreWorkers shards w
 
 -- some list of puts that begins with those made has this at the key after its first `at`
 abbrev pub IsFoundFrom : List Put → List ℕ → Option Rec → ℕ → Type 0
-IsFoundFrom made key hit at = (seen : List Put) × IsStartOf made seen × (at ≤ length seen) × HasLastPut (take at seen) key hit
+IsFoundFrom made key hit at = (seen : List Put) × IsStartOf made seen × (at ≤ length seen)
+    × HasLastPut (take at seen) key hit
 
 -- readers of new shards know all puts that were made there: none
 abbrev pub LawNewHaveLearnt : Type 0

@@ -1,4 +1,4 @@
-//! The seats of a table's workers, dealt out as jobs to those that have something to do, from the last worker to the first.
+//! The seats of a table's workers, dealt out from the last worker to the first: one that has something to do gets a job.
 
 ghost use Rattle.std.specs.Prelude.{◌≡◌, ◌≤◌, [], ◌∷◌, ◌++◌, true, false, IfOk, List, All, vec_len, length};
 ghost use Rattle.shard_table.specs.Seats.{TableAt, AreEach, AreWorkers, IsFreeWriter, IsFreeReader};
@@ -8,7 +8,7 @@ ghost use Rattle.load_work.specs.declared.jobs.Job.{Job};
 ghost use Rattle.load_work.specs.Puts.{puts_of};
 ghost use Rattle.load_work.specs.Reads.{gets_of};
 ghost use Rattle.load_work.specs.Jobs.{CanRun, HasRun};
-ghost use Rattle.load_work.specs.Deal.{IsDealt, writes_from, reads_from, jobs_of};
+ghost use Rattle.load_work.specs.Deal.{IsDealt, DealsJob, DealsDone, DealsReaders, DealsWriters, jobs_of};
 
 use crate::batch::{BatchGet, BatchPut};
 use crate::jobs::{Done, Job};
@@ -18,8 +18,8 @@ use std::alloc::Global;
 use std::mem;
 use trie_rule::{ReadSeat, WriteSeat};
 
-/// The jobs of the workers that have something to do, and a place for each worker: one that has nothing to do has in it at
-/// once what it leaves.
+/// The jobs of the workers that have something to do, and a place for each worker. One that has nothing to do has in its
+/// place at once what it leaves.
 #[derive(Drop)]
 pub(crate) struct Dealt {
     pub(crate) jobs: Vec<Job>,
@@ -85,9 +85,8 @@ impl Dealt {
 
     /// A worker's job, for a thread.
     fn deal(&mut self, job: Job) -> Result<(), NoMemory>
-        ensures { IfOk result (λ _. (table : TableAt) (puts : List BatchPut) (gets : List BatchGet) (workers : List Job) →
-            CanRun table job → IsDealt table puts gets workers self.old.jobs.items self.old.places.items →
-            IsDealt table puts gets (job ∷ workers) self.new.jobs.items self.new.places.items) }
+        ensures { IfOk result (λ _.
+            DealsJob job self.old.jobs.items self.old.places.items self.new.jobs.items self.new.places.items) }
     {
         self.places.push(None)?;
         self.jobs.push(job)?;
@@ -96,10 +95,8 @@ impl Dealt {
 
     /// What a worker leaves that has nothing to do.
     fn pass(&mut self, done: Done) -> Result<(), NoMemory>
-        ensures { IfOk result (λ _. (table : TableAt) (puts : List BatchPut) (gets : List BatchGet) (workers : List Job) (job : Job) →
-            HasRun table puts gets job done →
-            IsDealt table puts gets workers self.old.jobs.items self.old.places.items →
-            IsDealt table puts gets (job ∷ workers) self.new.jobs.items self.new.places.items) }
+        ensures { IfOk result (λ _.
+            DealsDone done self.old.jobs.items self.old.places.items self.new.jobs.items self.new.places.items) }
     {
         self.places.push(Some(done))?;
         Ok(())
@@ -113,10 +110,8 @@ impl Dealt {
         readers: Vec<Vec<ReadSeat>>,
     ) -> Result<(), NoMemory>
         requires few { vec_len readers ≤ 8 }
-        ensures { IfOk result (λ _. (table : TableAt) (puts : List BatchPut) (workers : List Job) →
-            All (λ seats. AreEach IsFreeReader table.shards seats.items) readers.items →
-            IsDealt table puts gets.now workers self.old.jobs.items self.old.places.items →
-            IsDealt table puts gets.now (reads_from 0 readers.items ++ workers) self.new.jobs.items self.new.places.items) }
+        ensures { IfOk result (λ _. DealsReaders gets.now readers.items
+            self.old.jobs.items self.old.places.items self.new.jobs.items self.new.places.items) }
     {
         let mut readers = readers;
         'readers: while let Some(seats) = readers.pop() {
@@ -139,9 +134,8 @@ impl Dealt {
     ) -> Result<(), NoMemory>
         requires few { vec_len writers ≤ 8 }
         requires free { AreEach IsFreeWriter table.now.shards writers.items }
-        ensures { IfOk result (λ _. (gets : List BatchGet) (workers : List Job) →
-            IsDealt table.now puts.now gets workers self.old.jobs.items self.old.places.items →
-            IsDealt table.now puts.now gets (writes_from 0 writers.items ++ workers) self.new.jobs.items self.new.places.items) }
+        ensures { IfOk result (λ _. DealsWriters table.now puts.now writers.items
+            self.old.jobs.items self.old.places.items self.new.jobs.items self.new.places.items) }
     {
         let mut writers = writers;
         'writers: while let Some(seat) = writers.pop() {

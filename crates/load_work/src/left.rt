@@ -1,14 +1,8 @@
 //! What the workers of a batch left, taken back from the first worker to the last.
 
-ghost use Rattle.std.specs.Prelude.{◌≡◌, ◌∷◌, ◌++◌, ℕ, IfOk, List, length};
-ghost use Rattle.std.specs.Global.{Vec};
-ghost use Rattle.trie_rule.specs.Seats.{WriterAt, ReaderAt};
-ghost use Rattle.shard_table.specs.Seats.{TableAt};
-ghost use Rattle.load_work.specs.declared.batch.BatchPut.{BatchPut};
-ghost use Rattle.load_work.specs.declared.batch.BatchGet.{BatchGet};
-ghost use Rattle.load_work.specs.declared.jobs.Job.{Job};
-ghost use Rattle.load_work.specs.Jobs.{HasRun};
-ghost use Rattle.load_work.specs.Deal.{IsLeft, writes_from, reads_from, earlier_line, HaveWritten, HaveRead};
+ghost use Rattle.std.specs.Prelude.{◌≡◌, IfOk};
+ghost use Rattle.load_work.specs.Deal.{earlier_line, HasNext, IsNextDone, TakesNext};
+ghost use Rattle.load_work.specs.Deal.{HasWriters, WritersLeft, TakesWriters, HasReaders, ReadersLeft};
 
 use crate::batch::Answer;
 use crate::jobs::Done;
@@ -37,14 +31,9 @@ fn earlier(first: Option<u32>, line: Option<u32>) -> Option<u32>
 impl Left {
     /// What the next worker left.
     fn next_done(&mut self) -> Done
-        requires { (table : TableAt) × (puts : List BatchPut) × (gets : List BatchGet) × (job : Job) × (workers : List Job) ×
-            IsLeft table puts gets (job ∷ workers) self.old.done.items self.old.places.items }
-        ensures run { (table : TableAt) (puts : List BatchPut) (gets : List BatchGet) (job : Job) (workers : List Job) →
-            IsLeft table puts gets (job ∷ workers) self.old.done.items self.old.places.items →
-            HasRun table puts gets job result }
-        ensures left { (table : TableAt) (puts : List BatchPut) (gets : List BatchGet) (job : Job) (workers : List Job) →
-            IsLeft table puts gets (job ∷ workers) self.old.done.items self.old.places.items →
-            IsLeft table puts gets workers self.new.done.items self.new.places.items }
+        requires { HasNext self.old.done.items self.old.places.items }
+        ensures run { IsNextDone self.old.done.items self.old.places.items result }
+        ensures left { TakesNext self.old.done.items self.old.places.items self.new.done.items self.new.places.items }
     {
         match self.places.pop() {
             Some(Some(done)) => done,
@@ -62,17 +51,11 @@ impl Left {
         alloc: Global,
         count: usize,
     ) -> Result<(Vec<WriteSeat>, Option<u32>), NoMemory>
-        requires { (table : TableAt) × (puts : List BatchPut) × (gets : List BatchGet) × (before : List WriterAt) ×
-            (workers : List Job) × (length before ≡ count) ×
-            IsLeft table puts gets (writes_from 0 before ++ workers) self.old.done.items self.old.places.items }
-        ensures written { IfOk result (λ taken. (table : TableAt) (puts : List BatchPut) (gets : List BatchGet) (before : List WriterAt)
-            (workers : List Job) → length before ≡ count →
-            IsLeft table puts gets (writes_from 0 before ++ workers) self.old.done.items self.old.places.items →
-            HaveWritten table puts before taken.0.items taken.1) }
-        ensures left { IfOk result (λ _. (table : TableAt) (puts : List BatchPut) (gets : List BatchGet) (before : List WriterAt)
-            (workers : List Job) → length before ≡ count →
-            IsLeft table puts gets (writes_from 0 before ++ workers) self.old.done.items self.old.places.items →
-            IsLeft table puts gets workers self.new.done.items self.new.places.items) }
+        requires { HasWriters count self.old.done.items self.old.places.items }
+        ensures written { IfOk result (λ taken.
+            WritersLeft count self.old.done.items self.old.places.items taken.0.items taken.1) }
+        ensures left { IfOk result (λ _. TakesWriters count
+            self.old.done.items self.old.places.items self.new.done.items self.new.places.items) }
     {
         let mut writers = Vec::new(alloc);
         let mut first = None;
@@ -94,13 +77,9 @@ impl Left {
         alloc: Global,
         count: usize,
     ) -> Result<(Vec<Vec<ReadSeat>>, Vec<Vec<Answer>>), NoMemory>
-        requires { (table : TableAt) × (puts : List BatchPut) × (gets : List BatchGet) × (before : List (Vec ReaderAt)) ×
-            (workers : List Job) × (length before ≡ count) ×
-            IsLeft table puts gets (reads_from 0 before ++ workers) self.old.done.items self.old.places.items }
-        ensures { IfOk result (λ taken. (table : TableAt) (puts : List BatchPut) (gets : List BatchGet) (before : List (Vec ReaderAt))
-            (workers : List Job) → length before ≡ count →
-            IsLeft table puts gets (reads_from 0 before ++ workers) self.old.done.items self.old.places.items →
-            HaveRead table gets before taken.0.items taken.1.items) }
+        requires { HasReaders count self.old.done.items self.old.places.items }
+        ensures { IfOk result (λ taken.
+            ReadersLeft count self.old.done.items self.old.places.items taken.0.items taken.1.items) }
     {
         let mut readers = Vec::new(alloc);
         let mut lists = Vec::new(alloc);

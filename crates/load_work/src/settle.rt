@@ -1,4 +1,4 @@
-//! What is done where all threads are joined: readers learn the writers' notes, and answers are bounded by the puts made.
+//! What is done where all threads are joined: readers learn the writers' notes, and answers are bounded.
 
 ghost use Rattle.std.specs.Prelude.{◌≡◌, ◌≤◌, ℕ, All, Some, length, min, take, slice_get};
 ghost use Rattle.trie_image.specs.Puts.{HasLastPut};
@@ -30,7 +30,7 @@ pub(crate) fn learn_puts(cells: &ShardCells, writer: &mut WriteSeat, reader: &mu
     learn(cells, reader, note);
 }
 
-/// What was found, where it stands for no more puts than the writer has made, and otherwise what its puts have at the key.
+/// What was found, where it stands for no more puts than the writer has made; otherwise what its puts have at the key.
 ///
 /// A reader never sees more puts than are made, so the second is never met. It makes the bound a fact that is proved.
 pub(crate) fn bounded(cells: &ShardCells, writer: &mut WriteSeat, key: &[u8], found: Found) -> Found

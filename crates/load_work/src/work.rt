@@ -1,5 +1,4 @@
-//! A whole batch. What is done here is done between the threads: workers are dealt out before them, and answers made of what they
-//! leave.
+//! A whole batch: workers are dealt out to threads, and answers made of what they leave.
 
 ghost use Rattle.std.specs.Prelude.{◌≡◌, ◌≤◌, ℕ, All, Err, IfOk, length, vec_len};
 ghost use Rattle.shard_table.specs.Seats.{AreEach, AreWorkers};
@@ -39,8 +38,8 @@ impl From<NoMemory> for LoadError {
     }
 }
 
-/// Does the work of a batch on threads. Answers what each reader answered, and the least line of a put for which its shard had no
-/// room.
+/// Does the work of a batch on threads. Answers what each reader answered, and the least line of a put for which its
+/// shard had no room.
 fn run_workers<R: Threads + Sync, G: Gate>(
     rt: &R,
     alloc: Global,
@@ -73,11 +72,11 @@ fn run_workers<R: Threads + Sync, G: Gate>(
     Ok((lists, first))
 }
 
-/// Makes the puts of a batch and answers its gets. Each shard's writer makes its puts in their order, beside them each reader its gets
-/// in their order, and then every reader knows all puts. The gate is called before each put and each read.
+/// Makes the puts of a batch and answers its gets. Each shard's writer makes its puts in their order, beside them each
+/// reader its gets in their order, and then every reader knows all puts. The gate is called before each put and read.
 ///
-/// The answers stand in the order of the gets. Where there is no room, the line is the least one at which a shard had none, and the
-/// puts before it in its shard stand: the table may be closed. Without memory, table and workers may only be dropped.
+/// The answers stand in the order of the gets. `Full` has the least line for which a shard had no room; the puts before
+/// such a put in its shard stand, and the table may be closed. Without memory, table and workers may only be dropped.
 pub fn run_batch<R: Threads + Sync, G: Gate>(
     rt: &R,
     alloc: Global,

@@ -12,9 +12,9 @@ readers-preserved-in-Continue-1 c =
     let all : c.args.readers.items ≡ now.items ++ seats ∷ rest = one_less c.args.readers.items before.items now.items rest seats c.readers.invariant.1 c.in-Some.ensures.items in (
       seats ∷ rest,
       all,
-      λ table puts workers free was.
+      λ table puts free workers was.
           next_reader table puts c.args.gets.now workers c.len-reader.result (vec_len now) (vec_len before) c.len-reader.ensures e c.deal.new.self.jobs.items c.deal.new.self.places.items seats rest
-          (c.in_ok-deal.ensures table puts c.args.gets.now (reads_from (vec_len before) rest ++ workers) (reader_free table.shards c.args.readers.items now.items rest seats all free) (c.readers.invariant.2 table puts workers free was)),
+          (c.in_ok-deal.ensures table puts c.args.gets.now (reader_free table.shards c.args.readers.items now.items rest seats all free) (reads_from (vec_len before) rest ++ workers) (c.readers.invariant.2 table puts free workers was)),
     )
 
 pub readers-preserved : goal.readers-preserved
@@ -25,9 +25,10 @@ readers-preserved c =
     let none : gets_of c.len-reader.result c.args.gets.now ≡ [] = c.has_gets.ensures c.if-has_gets.false in (
       seats ∷ rest,
       all,
-      λ table puts workers free was.
+      λ table puts free workers was.
           next_reader table puts c.args.gets.now workers c.len-reader.result (vec_len now) (vec_len before) c.len-reader.ensures e c.pass.new.self.jobs.items c.pass.new.self.places.items seats rest
-          (c.in_ok-pass.ensures table puts c.args.gets.now (reads_from (vec_len before) rest ++ workers) _
+          (c.in_ok-pass.ensures table puts c.args.gets.now _
           (idle_reader table puts c.args.gets.now c.len-reader.result seats c.new.result (reader_free table.shards c.args.readers.items now.items rest seats all free) none c.new.ensures.items)
-          (c.readers.invariant.2 table puts workers free was)),
+          (reads_from (vec_len before) rest ++ workers)
+          (c.readers.invariant.2 table puts free workers was)),
     )

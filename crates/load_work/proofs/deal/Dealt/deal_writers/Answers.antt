@@ -14,7 +14,7 @@ writers-preserved-in-Continue-1 c =
       all,
       λ gets workers was.
           next_writer c.args.table.now c.args.puts.now gets workers c.len-shard.result (vec_len now) (vec_len before) c.len-shard.ensures e c.deal.new.self.jobs.items c.deal.new.self.places.items seat rest
-          (c.in_ok-deal.ensures c.args.table.now c.args.puts.now gets (writes_from (vec_len before) rest ++ workers) (writer_can c.args.table.now c.len-shard.result c.args.writers.items now.items rest seat all (c.len-shard.ensures ∙ now.ok.0) c.requires.free) (c.writers.invariant.2 gets workers was)),
+          (c.in_ok-deal.ensures c.args.table.now c.args.puts.now gets (writer_can c.args.table.now c.len-shard.result c.args.writers.items now.items rest seat all (c.len-shard.ensures ∙ now.ok.0) c.requires.free) (writes_from (vec_len before) rest ++ workers) (c.writers.invariant.2 gets workers was)),
     )
 
 pub writers-preserved : goal.writers-preserved
@@ -27,7 +27,8 @@ writers-preserved c =
       all,
       λ gets workers was.
           next_writer c.args.table.now c.args.puts.now gets workers c.len-shard.result (vec_len now) (vec_len before) c.len-shard.ensures e c.pass.new.self.jobs.items c.pass.new.self.places.items seat rest
-          (c.in_ok-pass.ensures c.args.table.now c.args.puts.now gets (writes_from (vec_len before) rest ++ workers) _
+          (c.in_ok-pass.ensures c.args.table.now c.args.puts.now gets _
           (idle_writer c.args.table.now c.args.puts.now gets c.len-shard.result seat (writer_can c.args.table.now c.len-shard.result c.args.writers.items now.items rest seat all (c.len-shard.ensures ∙ now.ok.0) c.requires.free) none)
+          (writes_from (vec_len before) rest ++ workers)
           (c.writers.invariant.2 gets workers was)),
     )

@@ -15,7 +15,7 @@ returns c =
     let table = c.args.table.now in let puts = c.args.puts.now in let gets = c.args.gets.now in let w = c.args.workers.now in
     let free : All (λ (s : Vec ReaderAt). AreEach IsFreeReader table.shards s.items) c.replace-readers.result.items =
     subst (λ (v : Vec (Vec ReaderAt)). All (λ (s : Vec ReaderAt). AreEach IsFreeReader table.shards s.items) v.items) (sym c.replace-readers.ensures.value) c.requires.workers.reading in
-    let readers = c.in_ok-deal_readers.ensures table puts [] free (c.new-dealt.ensures.jobs, c.new-dealt.ensures.places) in
+    let readers = c.in_ok-deal_readers.ensures table puts free [] (c.new-dealt.ensures.jobs, c.new-dealt.ensures.places) in
     let all = c.in_ok-deal_writers.ensures gets (reads_from 0 c.replace-readers.result.items ++ []) readers in
     subst (λ (v : Vec WriterAt). IsDealt table puts gets (writes_from 0 v.items ++ (reads_from 0 w.readers.items ++ [])) c.deal_writers.new.self.jobs.items c.deal_writers.new.self.places.items) c.replace-writers.ensures.value
     (subst (λ (v : Vec (Vec ReaderAt)). IsDealt table puts gets (writes_from 0 c.replace-writers.result.items ++ (reads_from 0 v.items ++ [])) c.deal_writers.new.self.jobs.items c.deal_writers.new.self.places.items) c.replace-readers.ensures.value all)
