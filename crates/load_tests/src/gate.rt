@@ -10,7 +10,8 @@ use std::test::Fail;
 
 const KEY: &[u8; 7] = b"\x40\x80\x00\x00\x01\x38\x38";
 
-/// The read of line 2 waits for the put of line 3, and this put for the read of line 4. A gate that waits too long counts as late.
+/// The read of line 2 waits for the put of line 3, and this put for the read of line 4. A gate that waits too long
+/// counts as late.
 #[derive(Drop)]
 struct Turns {
     third: AtomicU64,

@@ -28,8 +28,8 @@ reads_from q (seats ∷ readers) = Read q seats ∷ reads_from (suc q) readers
 abbrev pub jobs_of : Workers → List Job
 jobs_of w = writes_from 0 w.writers.items ++ (reads_from 0 w.readers.items ++ [])
 
--- the workers are dealt from the last one to the first, so that the last place is the first worker's: it has what a worker
--- leaves that has nothing to do, or is empty, and then the last job is this worker's, who can do it
+-- the workers are dealt from the last one to the first, so that the last place is the first worker's: it has what a
+-- worker leaves that has nothing to do, or is empty, and then the last job is this worker's, who can do it
 abbrev pub IsDealt : TableAt → List BatchPut → List BatchGet → List Job → List Job → List (Option Done) → Type 0
 IsDealt table puts gets [] jobs places = (jobs ≡ []) × (places ≡ [])
 IsDealt table puts gets (worker ∷ workers) jobs places =
@@ -41,21 +41,21 @@ IsDealt table puts gets (worker ∷ workers) jobs places =
 -- where workers that were dealt left jobs and places, those with these before them leave the later ones
 abbrev pub Deals : TableAt → List BatchPut → List BatchGet → List Job → List Job → List (Option Done) → List Job
     → List (Option Done) → Type 0
-Deals table puts gets first jobs places jobs' places' = (workers : List Job) → IsDealt table puts gets workers jobs places
-    → IsDealt table puts gets (first ++ workers) jobs' places'
+Deals table puts gets first jobs places jobs' places' = (workers : List Job)
+    → IsDealt table puts gets workers jobs places → IsDealt table puts gets (first ++ workers) jobs' places'
 
 -- one worker is dealt: it can do its job, or has nothing to do and leaves this
 abbrev pub DealsJob : Job → List Job → List (Option Done) → List Job → List (Option Done) → Type 0
-DealsJob job jobs places jobs' places' = (table : TableAt) (puts : List BatchPut) (gets : List BatchGet) → CanRun table job
-    → Deals table puts gets (job ∷ []) jobs places jobs' places'
+DealsJob job jobs places jobs' places' = (table : TableAt) (puts : List BatchPut) (gets : List BatchGet)
+    → CanRun table job → Deals table puts gets (job ∷ []) jobs places jobs' places'
 
 abbrev pub DealsDone : Done → List Job → List (Option Done) → List Job → List (Option Done) → Type 0
 DealsDone done jobs places jobs' places' = (table : TableAt) (puts : List BatchPut) (gets : List BatchGet) (job : Job)
     → HasRun table puts gets job done → Deals table puts gets (job ∷ []) jobs places jobs' places'
 
 -- readers are dealt, whose seats are those of the table's shards
-abbrev pub DealsReaders : List BatchGet → List (Vec ReaderAt) → List Job → List (Option Done) → List Job → List (Option Done)
-    → Type 0
+abbrev pub DealsReaders : List BatchGet → List (Vec ReaderAt) → List Job → List (Option Done) → List Job
+    → List (Option Done) → Type 0
 DealsReaders gets readers jobs places jobs' places' = (table : TableAt) (puts : List BatchPut)
     → All (λ seats. AreEach IsFreeReader table.shards seats.items) readers
     → Deals table puts gets (reads_from 0 readers) jobs places jobs' places'
@@ -108,27 +108,29 @@ pub record HaveRead (table : TableAt) (gets : List BatchGet) (before after : Lis
   pub lists : length answers ≡ length before
   pub free : All (λ seats. AreEach IsFreeReader table.shards seats.items) after
   pub each : (q : ℕ) (old new : Vec ReaderAt) (list : Vec Answer) → slice_get before q ≡ Some old
-      → slice_get after q ≡ Some new → slice_get answers q ≡ Some list → ReaderHasRead table gets q old.items new.items list.items
+      → slice_get after q ≡ Some new → slice_get answers q ≡ Some list
+      → ReaderHasRead table gets q old.items new.items list.items
 
 -- some worker is left
 abbrev pub HasNext : List Done → List (Option Done) → Type 0
-HasNext left places = (table : TableAt) × (puts : List BatchPut) × (gets : List BatchGet) × (job : Job) × (workers : List Job)
-    × IsLeft table puts gets (job ∷ workers) left places
+HasNext left places = (table : TableAt) × (puts : List BatchPut) × (gets : List BatchGet) × (job : Job)
+    × (workers : List Job) × IsLeft table puts gets (job ∷ workers) left places
 
 -- this is what the next worker left
 abbrev pub IsNextDone : List Done → List (Option Done) → Done → Type 0
-IsNextDone left places done = (table : TableAt) (puts : List BatchPut) (gets : List BatchGet) (job : Job) (workers : List Job)
-    → IsLeft table puts gets (job ∷ workers) left places → HasRun table puts gets job done
+IsNextDone left places done = (table : TableAt) (puts : List BatchPut) (gets : List BatchGet) (job : Job)
+    (workers : List Job) → IsLeft table puts gets (job ∷ workers) left places → HasRun table puts gets job done
 
 -- the next worker is taken, and the others are left
 abbrev pub TakesNext : List Done → List (Option Done) → List Done → List (Option Done) → Type 0
 TakesNext left places left' places' = (table : TableAt) (puts : List BatchPut) (gets : List BatchGet) (job : Job)
-    (workers : List Job) → IsLeft table puts gets (job ∷ workers) left places → IsLeft table puts gets workers left' places'
+    (workers : List Job) → IsLeft table puts gets (job ∷ workers) left places
+    → IsLeft table puts gets workers left' places'
 
 -- so many writers are left, before others
 abbrev pub HasWriters : ℕ → List Done → List (Option Done) → Type 0
-HasWriters count left places = (table : TableAt) × (puts : List BatchPut) × (gets : List BatchGet) × (before : List WriterAt)
-    × (workers : List Job) × (length before ≡ count)
+HasWriters count left places = (table : TableAt) × (puts : List BatchPut) × (gets : List BatchGet)
+    × (before : List WriterAt) × (workers : List Job) × (length before ≡ count)
     × IsLeft table puts gets (writes_from 0 before ++ workers) left places
 
 -- these are the seats that the writers left, and the first line for which one had no room
@@ -141,7 +143,8 @@ WritersLeft count left places after first = (table : TableAt) (puts : List Batch
 abbrev pub TakesWriters : ℕ → List Done → List (Option Done) → List Done → List (Option Done) → Type 0
 TakesWriters count left places left' places' = (table : TableAt) (puts : List BatchPut) (gets : List BatchGet)
     (before : List WriterAt) (workers : List Job) → length before ≡ count
-    → IsLeft table puts gets (writes_from 0 before ++ workers) left places → IsLeft table puts gets workers left' places'
+    → IsLeft table puts gets (writes_from 0 before ++ workers) left places
+    → IsLeft table puts gets workers left' places'
 
 -- so many readers are left
 abbrev pub HasReaders : ℕ → List Done → List (Option Done) → Type 0

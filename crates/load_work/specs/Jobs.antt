@@ -12,8 +12,8 @@ use Rattle.load_work.specs.declared.jobs.Done.TheVariants as done
 use Rattle.load_work.specs.Puts.{HasWritten}
 use Rattle.load_work.specs.Reads.{HasGrown, HasRead, AnswersRise, gets_of}
 
--- the job's seats are those of the table's shards: a writer of its shard with no put under way, or readers of all shards
--- with no find under way
+-- the job's seats are those of the table's shards: a writer of its shard with no put under way, or readers of all
+-- shards with no find under way
 abbrev pub CanRun : TableAt → Job → Type 0
 CanRun table (Write i seat) = (cells : CellsAt) × (slice_get table.shards i ≡ Some cells) × MayWrite cells seat
 CanRun table (Read q seats) = AreEach IsFreeReader table.shards seats.items

@@ -1,4 +1,4 @@
-//! The seats of a table's workers, dealt out from the last worker to the first: one that has something to do gets a job.
+//! The seats of a table's workers, dealt out from the last worker to the first: one with something to do gets a job.
 
 ghost use Rattle.std.specs.Prelude.{◌≡◌, ◌≤◌, [], ◌∷◌, ◌++◌, true, false, IfOk, List, All, vec_len, length};
 ghost use Rattle.shard_table.specs.Seats.{TableAt, AreEach, AreWorkers, IsFreeWriter, IsFreeReader};
@@ -18,8 +18,8 @@ use std::alloc::Global;
 use std::mem;
 use trie_rule::{ReadSeat, WriteSeat};
 
-/// The jobs of the workers that have something to do, and a place for each worker. One that has nothing to do has in its
-/// place at once what it leaves.
+/// The jobs of the workers that have something to do, and a place for each worker. One that has nothing to do has in
+/// its place at once what it leaves.
 #[derive(Drop)]
 pub(crate) struct Dealt {
     pub(crate) jobs: Vec<Job>,

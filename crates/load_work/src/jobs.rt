@@ -23,7 +23,7 @@ pub(crate) enum Job {
     Read(u32, Vec<ReadSeat>),
 }
 
-/// The seats of a job that is done, and what it answers: the line of the first put without room, or answers to the gets.
+/// The seats of a job that is done, and what it answers: the line of the first put without room, or answers to gets.
 #[derive(Drop)]
 pub(crate) enum Done {
     Wrote(WriteSeat, Option<u32>),

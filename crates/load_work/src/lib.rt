@@ -1,6 +1,6 @@
 //! A batch of a script, put into the shards of a table and read from them on threads. Whoever loads a script calls it.
 //!
-//! Each shard with puts has its writer, and each reader with gets walks beside it; all are joined before an answer is given.
+//! Each shard with puts has its writer, and each reader with gets walks beside it; all are joined before any answer.
 #![tactic(auto)]
 
 ghost use Rattle.load_work.specs.Work.{LawNewHaveLearnt};
