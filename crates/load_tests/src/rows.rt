@@ -6,7 +6,7 @@ use crate::batches::{GetRow, PutRow, Wanted, check_batch, gets_of, puts_of};
 use key_types::{ByteList, NoMemory};
 use load_work::{LoadError, law_new_have_learnt, run_batch};
 use outside::OpenGate;
-use shard_table::{KeyList, ShardTable};
+use shard_table::{FrozenTable, KeyList, ShardTable};
 use std::alloc::Global;
 use std::process::Abort;
 use std::test::Fail;
@@ -30,7 +30,28 @@ fn one_bound(alloc: Global, bytes: &[u8]) -> Result<KeyList, NoMemory>
     Ok(bounds)
 }
 
-/// Two batches on two shards with two readers: puts with gets beside them, and gets after them.
+/// The shards list these keys with their values, one shard's behind another's, and no more.
+fn check_entries(
+    rt: &impl Abort,
+    alloc: Global,
+    table: &FrozenTable,
+    wanted: &[PutRow],
+) -> Result<(), NoMemory> {
+    assert!(rt; table.shards() > 0);
+    let mut cursor = table.cursor(alloc)?;
+    let mut key = ByteList::new(alloc);
+    let mut value = ByteList::new(alloc);
+    'entries: for row in wanted {
+        assert!(rt; table.next_into(&mut cursor, &mut key, &mut value)?);
+        assert_eq!(rt; key.as_slice(), row.1);
+        assert_eq!(rt; value.as_slice(), row.2);
+    }
+    assert!(rt; !table.next_into(&mut cursor, &mut key, &mut value)?);
+    Ok(())
+}
+
+/// Two batches on two shards with two readers: puts, whose keys ascend, with gets beside them, and gets after them. The
+/// shards then list the puts.
 fn check_two<R: Abort + Threads + Sync>(
     rt: &R,
     alloc: Global,
@@ -41,7 +62,8 @@ fn check_two<R: Abort + Threads + Sync>(
 ) -> Result<(), Fail> {
     let (table, mut workers) = ShardTable::new(alloc, one_bound(alloc, TEN)?, 1024, 2)?;
     law_new_have_learnt();
-    let puts = puts_of(rt, alloc, puts)?;
+    let rows = puts;
+    let puts = puts_of(rt, alloc, rows)?;
     let beside = gets_of(rt, alloc, 2, beside)?;
     let behind = gets_of(rt, alloc, 2, behind)?;
     let open = OpenGate;
@@ -56,6 +78,8 @@ fn check_two<R: Abort + Threads + Sync>(
         wanted,
     )?;
     check_batch(rt, alloc, &table, &mut workers, &[], &behind, &open, wanted)?;
+    let frozen = table.close(alloc, workers)?;
+    check_entries(rt, alloc, &frozen, rows)?;
     Ok(())
 }
 
