@@ -1,2 +1,5 @@
 pub mod Tables
 pub mod Rows
+pub mod Held
+pub mod Places
+pub mod Steps

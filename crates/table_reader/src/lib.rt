@@ -3,7 +3,11 @@
 #![tactic(auto)]
 
 mod block;
+mod block_at;
 mod fault;
+mod get;
+mod place;
+mod row_value;
 mod table;
 
 pub use block::{Stop, find_row};
