@@ -3,3 +3,7 @@ pub mod Rows
 pub mod Held
 pub mod Places
 pub mod Steps
+pub mod Lookup
+pub mod InBlock
+pub mod Indexed
+pub mod Whole

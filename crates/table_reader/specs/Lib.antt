@@ -3,3 +3,4 @@ pub mod Opened
 pub mod Rows
 pub mod Gets
 pub mod Reads
+pub mod Laws
