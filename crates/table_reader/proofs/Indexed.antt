@@ -46,11 +46,11 @@ ends_same a b x y e n =
     let same : length a ≡ length b = omega arith in
     sym (drop-append_seam a x) ∙ ap (λ k. drop k (a ++ x)) same ∙ ap (drop (length b)) e ∙ drop-append_seam b y
 
-eight_long : (n : ℕ) → length (in_eight n) ≡ 8
+pub eight_long : (n : ℕ) → length (in_eight n) ≡ 8
 unfolding in_eight
 eight_long n = length-bytes_high_first 8 n
 
-eight_read : (n : ℕ) (more : List ℕ) → n < 2 ^ 64 → big_number 8 (in_eight n ++ more) ≡ n
+pub eight_read : (n : ℕ) (more : List ℕ) → n < 2 ^ 64 → big_number 8 (in_eight n ++ more) ≡ n
 unfolding in_eight
 eight_read n more h = big_number-reads_back 8 n more h
 
@@ -58,7 +58,7 @@ eight_read n more h = big_number-reads_back 8 n more h
 behind_eight : (n : ℕ) (more : List ℕ) → drop 8 (in_eight n ++ more) ≡ more
 behind_eight n more = ap (λ k. drop k (in_eight n ++ more)) (sym (eight_long n)) ∙ drop-append_seam (in_eight n) more
 
-footer_reads : (end_ count root : ℕ) → count < 2 ^ 64 → root < 2 ^ 64
+pub footer_reads : (end_ count root : ℕ) → count < 2 ^ 64 → root < 2 ^ 64
     → ((footer_numbers (footer end_ count root)).partitions ≡ count) × ((footer_numbers (footer end_ count root)).root ≡ root)
 footer_reads end_ count root few below =
     let rest = in_eight count ++ in_eight root in

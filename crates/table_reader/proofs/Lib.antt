@@ -7,3 +7,4 @@ pub mod Lookup
 pub mod InBlock
 pub mod Indexed
 pub mod Whole
+pub mod Footers

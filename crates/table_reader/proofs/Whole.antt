@@ -267,9 +267,9 @@ none_of : (columns : Columns) (ps : List Partition) (key : List ℕ) (wanted : O
 none_of columns ps key None is are lacks = ap (λ q. finite.find string_cmp q (entries_in ps)) (sym (append-nil key)) ∙ table_none columns key [] is ps are lacks
 none_of columns ps key (Some row) is are lacks = table_none columns key row is ps are lacks
 
-lacks_all : (key : List ℕ) (front : List Partition) (p : Partition) (rest : List Partition) → LacksPartition key front → key ≢ p.key → LacksPartition key rest → LacksPartition key (front ++ p ∷ rest)
-lacks_all key [] p rest before apart behind = (apart, behind)
-lacks_all key (q ∷ front) p rest before apart behind = (before.0, lacks_all key front p rest before.1 apart behind)
+lacks_all : (key : List ℕ) (front : List Partition) (p : Partition) (more : List Partition) → LacksPartition key front → key ≢ p.key → LacksPartition key more → LacksPartition key (front ++ p ∷ more)
+lacks_all key [] p more before apart behind = (apart, behind)
+lacks_all key (q ∷ front) p more before apart behind = (before.0, lacks_all key front p more before.1 apart behind)
 
 module _ (t : TableBytes) (key : List ℕ) (is : IsStringOf t.columns.partition key) (front : List Partition) (p : Partition) (rest : List Partition)
     (base : ℕ) (s : StandsAt t.columns t.entries p base) (are : ArePartitions t.columns (front ++ p ∷ rest)) (before : LacksPartition key front) (behind_all : LacksPartition key rest) where

@@ -1,6 +1,7 @@
 -- What a get finds in the files of a table, step by step: each step tells what stands at its place, or that nothing
 -- sound does, and the first such place ends the get. This project's own.
-use Rattle.std.specs.Prelude.{◌≡◌, ◌≢◌, ◌⊎◌, ℕ, ◌+◌, ℤ, List, length, drop, Option, None, Some, Result, Ok, Err, if◌then◌else◌, ◌==◌}
+use Rattle.std.specs.Prelude.{◌≡◌, ◌≢◌, ◌⊎◌, ℕ, ◌+◌, ◌==◌, ℤ, if◌then◌else◌}
+use Rattle.std.specs.Prelude.{List, length, drop, Option, None, Some, Result, Ok, Err}
 use Rattle.key_types.specs.declared.schema.ValueType.{ValueType}
 use Rattle.key_types.specs.Columns.{Columns}
 use Rattle.outside.specs.declared.store.Part.TheVariants.{Partitions, Rows}
@@ -48,7 +49,8 @@ Found = Result (Option (List ℕ)) Damage
 
 -- a step ends in damage, which is what is found; or well, and the rest finds what is found
 abbrev pub Then : {A : Type 0} → (Result A Damage → Type 0) → (A → Found → Type 0) → Found → Type 0
-Then {A} Step Rest found = ((damage : Damage) × Step (Err damage) × (found ≡ Err damage)) ⊎ ((x : A) × Step (Ok x) × Rest x found)
+Then {A} Step Rest found =
+    ((damage : Damage) × Step (Err damage) × (found ≡ Err damage)) ⊎ ((x : A) × Step (Ok x) × Rest x found)
 
 -- where nothing is there none is found
 abbrev pub IfThere : {A : Type 0} → Option A → (A → Found → Type 0) → Found → Type 0
@@ -139,4 +141,5 @@ FindsThere t key wanted number found =
 -- What a get finds of a partition's key: the row of a clustering, or without one the static value.
 abbrev pub Gets : TableBytes → FooterNumbers → List ℕ → Option (List ℕ) → Found → Type 0
 Gets t footer key wanted found =
-    Then (λ number. number ≡ number_in t.partitions footer key) (λ number. IfThere number (FindsThere t key wanted)) found
+    Then (λ number. number ≡ number_in t.partitions footer key)
+    (λ number. IfThere number (FindsThere t key wanted)) found

@@ -25,3 +25,9 @@ GetsAreOfMap =
     → IsStringOf columns.partition key → IfSome wanted (IsStringOf columns.clustering)
     → Gets (bytes_in columns files generation) footer key wanted found
     → found ≡ Ok (finite.get table (string_of_key key wanted))
+
+-- over files that stand for a map the partition index has its footer
+abbrev pub FootersStand : Type 0
+FootersStand =
+    (files : Files) (generation : ℕ) (columns : Columns) (table : Table) → StandFor files generation columns table
+    → (footer : FooterNumbers) × HasFooter columns (bytes_of files (partitions_id generation)) footer

@@ -42,7 +42,8 @@ separator_length file (Some root) key = path_length (floor_in file root key)
 abbrev pub IsWithinThere : TableBytes → ℤ → Option (List ℕ) → ℕ → Type 0
 IsWithinThere t number None most = Unit {0}
 IsWithinThere t number (Some row) most =
-    (there : PartitionAt) → LeadsTo t (partition_place number) (Ok there) → separator_length t.rows there.root row ≤ most
+    (there : PartitionAt) → LeadsTo t (partition_place number) (Ok there)
+    → separator_length t.rows there.root row ≤ most
 
 -- the same of a get, by the number that the partition index has
 abbrev pub HasSeparatorWithin : TableBytes → FooterNumbers → List ℕ → Option (List ℕ) → ℕ → Type 0
@@ -59,7 +60,9 @@ abbrev pub block_length : List ℕ → Option ℕ → Option (List ℕ) → ℕ
 block_length rows root None = 0
 block_length rows root (Some key) = length key + separator_length rows root key
 
--- A get reads the store as often at most as its two strings and the separator of its block have bytes, and 64 times more.
+-- A get reads the store as often at most as its two strings and the separator of its block have bytes, and 64 times
+-- more.
 abbrev pub IsBounded : TableBytes → FooterNumbers → List ℕ → Option (List ℕ) → ℕ → ℕ → Type 0
 IsBounded t footer key wanted old new =
-    (most : ℕ) → HasSeparatorWithin t footer key wanted most → new ≤ old + length key + clustering_length wanted + most + 64
+    (most : ℕ) → HasSeparatorWithin t footer key wanted most
+    → new ≤ old + length key + clustering_length wanted + most + 64

@@ -151,7 +151,8 @@ pub fn block_of<K: Store>(
     requires honest { Honest (K.files store.old) pages.old }
     requires head { there.head < 2 ^ 62 }
     requires behind { there.head ≤ behind }
-    ensures block { IfSome (K.files store.old) (λ m. Ends (FindsBlock (bytes_in (columns_of schema.now) m generation) there behind
+    ensures block { IfSome (K.files store.old) (λ m. Ends (FindsBlock
+        (bytes_in (columns_of schema.now) m generation) there behind
         (offset_in (bytes_of m (rows_id generation)) there.root key.now)) result) }
     ensures near { IfOk result (λ block. block.limit < 2 ^ 64 - 2 ^ 18) }
     ensures size { IfSome (K.files store.old) (λ _. IfOk result (λ block. block.limit ≤ block.rows + 16384)) }

@@ -97,8 +97,9 @@ pub fn value_of<K: Store>(
         footer key.now (option_copied wanted.entry)) result) }
     ensures honest { Honest (K.files store.new) pages.new }
     ensures files { K.files store.new ≡ K.files store.old }
-    ensures reads { IfSome (K.files store.old) (λ m. OnOk result (IsBounded (bytes_in (columns_of schema.now) m generation)
-        footer key.now (option_copied wanted.entry) (K.reads store.old) (K.reads store.new))) }
+    ensures reads { IfSome (K.files store.old) (λ m. OnOk result (IsBounded
+        (bytes_in (columns_of schema.now) m generation) footer key.now (option_copied wanted.entry)
+        (K.reads store.old) (K.reads store.new))) }
     ensures later { K.faults store.old ≤ K.faults store.new }
     ensures fault { result ≡ Err DataError.StoreFault → Rose (K.faults store.old) (K.faults store.new) }
 {

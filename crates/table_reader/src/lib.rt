@@ -13,7 +13,7 @@ mod table;
 
 pub use block::{Stop, find_row};
 pub use fault::TableFault;
-pub use laws::law_gets;
+pub use laws::{law_footers, law_gets};
 pub use table::OpenTable;
 
 #[cfg(test)]

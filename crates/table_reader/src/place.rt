@@ -1,6 +1,7 @@
 //! Where a partition stands. A get calls these with the footer's numbers and a partition's string: the number in the
 //! index of partitions, where it leads, and the head there, whose string has to be the key.
-ghost use Rattle.std.specs.Prelude.{◌≡◌, ◌↔◌, ◌<◌, ◌≤◌, ◌+◌, ◌^◌, length, drop, Err, IfErr, IfOk, IfSome, IsTrue, false, []};
+ghost use Rattle.std.specs.Prelude.{◌≡◌, ◌↔◌, ◌<◌, ◌≤◌, ◌+◌, ◌^◌, [], length, drop};
+ghost use Rattle.std.specs.Prelude.{Err, IfErr, IfOk, IfSome, IsTrue, false};
 ghost use Rattle.outside.specs.Causes.{Rose};
 ghost use Rattle.outside.specs.Files.{bytes_of};
 ghost use Rattle.key_types.specs.Columns.{columns_of};
@@ -49,7 +50,8 @@ pub fn damaged(at: u64, cause: Cause) -> DataError
 /// Whether a position is so great that no file has a byte there. Its bytes are then asked for by nobody.
 pub fn is_beyond<K: Store>(store: &mut K, file: FileId, at: u64) -> Result<bool, DataError>
     ensures near { IfOk result (λ beyond. beyond ≡ false → at < 2 ^ 62) }
-    ensures beyond { IfSome (K.files store.old) (λ m. IfOk result (λ beyond. IsTrue beyond → drop at (bytes_of m file) ≡ [])) }
+    ensures beyond { IfSome (K.files store.old) (λ m. IfOk result
+        (λ beyond. IsTrue beyond → drop at (bytes_of m file) ≡ [])) }
     ensures stops { IfErr result IsStop }
     ensures files { K.files store.new ≡ K.files store.old }
     ensures reads { K.reads store.new ≡ K.reads store.old }

@@ -89,6 +89,7 @@ impl OpenTable {
             (bytes_of m (partitions_id self.old.generation)) self.new.footer result) }
         ensures stands { StandsIn (K.files store.new) self.new }
         ensures same { self.new ≡ record self.old { footer = self.new.footer; pages = self.new.pages } }
+        ensures loaded { OnOk result (IsSome self.new.footer) }
         ensures kept { OnErr result (self.new.footer ≡ self.old.footer) }
         ensures files { K.files store.new ≡ K.files store.old }
         ensures reads { K.reads store.new ≤ K.reads store.old + 2 }
