@@ -49,34 +49,58 @@ found_line columns clustering (Some value) = value_line (kind_within columns clu
 -- the partition index has no footer, which is damage; or a get finds this
 abbrev pub FindsKey : Files → ℕ → Columns → AskedKey → Found → Type 0
 FindsKey files generation columns key found =
-    ((found ≡ Err (file_damage Partitions (footer_place (length (bytes_of files (partitions_id generation)))) BadFooter))
-    × NoFooter columns (bytes_of files (partitions_id generation)))
+    (NoFooter columns (bytes_of files (partitions_id generation))
+    × (found ≡ Err (file_damage Partitions (footer_place (length (bytes_of files (partitions_id generation)))) BadFooter)))
     ⊎ ((footer : FooterNumbers) × HasFooter columns (bytes_of files (partitions_id generation)) footer
     × Gets (bytes_in columns files generation) footer key.partition key.clustering found)
 
 -- what is found, faults and want of memory aside
 abbrev pub ShowsFound : Files → ℕ → Columns → AskedKey → Result (Option (List ℕ)) GetError → Type 0
 ShowsFound files generation columns key (Ok found) = FindsKey files generation columns key (Ok found)
-ShowsFound files generation columns key (Err (get_error.Damaged damage)) = FindsKey files generation columns key (Err damage)
+ShowsFound files generation columns key (Err (get_error.Damaged damage)) =
+    FindsKey files generation columns key (Err damage)
 ShowsFound files generation columns key (Err get_error.Usage) = ⊥
 ShowsFound files generation columns key (Err get_error.Unfinished) = ⊥
 ShowsFound files generation columns key (Err get_error.StoreFault) = Unit {0}
 ShowsFound files generation columns key (Err get_error.NoMemory) = Unit {0}
 
--- under the columns of the schema's file, the text names a key, at which this is found
-abbrev pub FindsNamed : Files → ℕ → List ℕ → Columns → AskedKey → Found → Type 0
-FindsNamed files generation text columns key found =
-    IsSchemaFile columns (bytes_of files (schema_id generation)) × NamesKey columns text key × FindsKey files generation columns key found
-
--- What is shown of the text: the line of what is found; or damage; or that the text names no key, or that the schema's file isn't whole.
-abbrev pub Shows : Files → ℕ → List ℕ → Result (List ℕ) GetError → Type 0
-Shows files generation text (Ok line) =
-    (columns : Columns) × (key : AskedKey) × (found : Option (List ℕ)) × FindsNamed files generation text columns key (Ok found)
+-- the line of what is found
+abbrev pub ShowsLine : Files → ℕ → Columns → AskedKey → Result (List ℕ) GetError → Type 0
+ShowsLine files generation columns key (Ok line) =
+    (found : Option (List ℕ)) × FindsKey files generation columns key (Ok found)
     × (line ≡ found_line columns key.clustering found)
+ShowsLine files generation columns key (Err (get_error.Damaged damage)) =
+    FindsKey files generation columns key (Err damage)
+ShowsLine files generation columns key (Err get_error.Usage) = ⊥
+ShowsLine files generation columns key (Err get_error.Unfinished) = ⊥
+ShowsLine files generation columns key (Err get_error.StoreFault) = Unit {0}
+ShowsLine files generation columns key (Err get_error.NoMemory) = Unit {0}
+
+-- the text names a key, of which this is shown; or it names none
+abbrev pub ShowsIn : Files → ℕ → Columns → List ℕ → Result (List ℕ) GetError → Type 0
+ShowsIn files generation columns text (Ok line) =
+    (key : AskedKey) × NamesKey columns text key × ShowsLine files generation columns key (Ok line)
+ShowsIn files generation columns text (Err (get_error.Damaged damage)) =
+    (key : AskedKey) × NamesKey columns text key
+    × ShowsLine files generation columns key (Err (get_error.Damaged damage))
+ShowsIn files generation columns text (Err get_error.Usage) = NamesNoKey columns text
+ShowsIn files generation columns text (Err get_error.Unfinished) = ⊥
+ShowsIn files generation columns text (Err get_error.StoreFault) = Unit {0}
+ShowsIn files generation columns text (Err get_error.NoMemory) = Unit {0}
+
+-- the same under the columns of the schema's file
+abbrev pub ShowsUnder : Files → ℕ → List ℕ → Result (List ℕ) GetError → Type 0
+ShowsUnder files generation text result =
+    (columns : Columns) × IsSchemaFile columns (bytes_of files (schema_id generation))
+    × ShowsIn files generation columns text result
+
+-- What is shown of the text: the line of what is found; or the first damage; or that the text names no key; or that the
+-- schema's file isn't whole.
+abbrev pub Shows : Files → ℕ → List ℕ → Result (List ℕ) GetError → Type 0
+Shows files generation text (Ok line) = ShowsUnder files generation text (Ok line)
 Shows files generation text (Err (get_error.Damaged damage)) =
-    (columns : Columns) × (key : AskedKey) × FindsNamed files generation text columns key (Err damage)
-Shows files generation text (Err get_error.Usage) =
-    (columns : Columns) × IsSchemaFile columns (bytes_of files (schema_id generation)) × NamesNoKey columns text
+    ShowsUnder files generation text (Err (get_error.Damaged damage))
+Shows files generation text (Err get_error.Usage) = ShowsUnder files generation text (Err get_error.Usage)
 Shows files generation text (Err get_error.Unfinished) = ¬ (IsWholeSchemaFile (bytes_of files (schema_id generation)))
 Shows files generation text (Err get_error.StoreFault) = Unit {0}
 Shows files generation text (Err get_error.NoMemory) = Unit {0}

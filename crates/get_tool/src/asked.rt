@@ -95,9 +95,21 @@ fn read_asked<'a>(
         (asked_at (columns_of schema.now) out_of_range.old bytes.now) }
 {
     let mut partition: KeyBytes = ByteList::new(alloc);
-    let rest = spell_list(alloc, &schema.partition, out_of_range, bytes, &mut partition)?;
+    let rest = spell_list(
+        alloc,
+        &schema.partition,
+        out_of_range,
+        bytes,
+        &mut partition,
+    )?;
     let (clustering, rest) = read_within(alloc, schema, out_of_range, rest)?;
-    Ok((AskedKey { partition, clustering }, rest))
+    Ok((
+        AskedKey {
+            partition,
+            clustering,
+        },
+        rest,
+    ))
 }
 
 /// The key of a whole text, and how many bytes are left where its first number begins that passes its type.

@@ -12,4 +12,3 @@ pub use asked::{AskedKey, KeyStop, read_key};
 pub use error::GetError;
 pub use laws::law_get_lines;
 pub use showing::show_value;
-
