@@ -67,7 +67,8 @@ IsRowString columns (Some string) = IsStringOf columns.clustering string
 abbrev pub AreKeyStrings : Columns → AskedKey → Type 0
 AreKeyStrings columns asked = IsStringOf columns.partition asked.partition × IsRowString columns asked.clustering
 
--- The text names the key of these strings: it is read whole, each number is of its type, and the strings are of its components.
+-- The text names the key of these strings: it is read whole, each number is of its type, and the strings are of its
+-- components.
 pub record NamesKey (columns : Columns) (text : List ℕ) (asked : AskedKey) : Type 0 where
   pub components : KeyText
   pub read : whole_asked columns text ≡ Ok (components, None)

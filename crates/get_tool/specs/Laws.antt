@@ -31,5 +31,6 @@ ShowsOf columns table text (Err get_error.NoMemory) = Unit {0}
 -- over files that stand for a map this is what is shown
 abbrev pub ShowsMap : Type 0
 ShowsMap =
-    (files : Files) (generation : ℕ) (columns : Columns) (table : Table) (text : List ℕ) (result : Result (List ℕ) GetError)
+    (files : Files) (generation : ℕ) (columns : Columns) (table : Table) (text : List ℕ)
+    (result : Result (List ℕ) GetError)
     → StandFor files generation columns table → Shows files generation text result → ShowsOf columns table text result

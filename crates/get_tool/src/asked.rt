@@ -1,9 +1,10 @@
-//! The text of a key, `P C` or `P static`: its strings are spelled while it is read. `show_value` calls this once the schema
-//! is known; a text that is refused is Usage.
+//! The text of a key, `P C` or `P static`: its strings are spelled while it is read. `show_value` calls this once the
+//! schema is known; a text that is refused is Usage.
 ghost use Rattle.std.specs.Prelude.{◌≡◌, ◌↔◌, Option, ℕ, IsTrue};
 ghost use Rattle.grammar.specs.Code.{GivesSome};
 ghost use Rattle.key_types.specs.Columns.{Columns, columns_of};
-ghost use Rattle.get_tool.specs.Asked.{AreKeyStrings, AreStringsOf, IsWithinOf, ReadsKey, asked_at, row_within, static_within, whole_asked, within_by};
+ghost use Rattle.get_tool.specs.Asked.{AreKeyStrings, AreStringsOf, IsWithinOf, ReadsKey};
+ghost use Rattle.get_tool.specs.Asked.{asked_at, row_within, static_within, whole_asked, within_by};
 
 use grammar::{Stop, read_word, skip_spaces};
 use key_decode::{is_clustering_string, is_partition_string};
@@ -46,8 +47,8 @@ impl From<Stop> for KeyStop {
 
 /// The word `static`, which names the static value.
 fn read_static(bytes: &[u8]) -> Result<(Option<KeyBytes>, &[u8]), Stop>
-    ensures { (columns : Columns) (mark : Option ℕ) → GivesSome (λ a x. ((a, mark), x.1.now)) (λ within x. IsWithinOf columns within x.0) result
-        (static_within mark bytes.now) }
+    ensures { (columns : Columns) (mark : Option ℕ) → GivesSome (λ a x. ((a, mark), x.1.now))
+        (λ within x. IsWithinOf columns within x.0) result (static_within mark bytes.now) }
 {
     let (_, rest) = read_word(b"static", bytes)?;
     Ok((None, rest))
@@ -60,7 +61,8 @@ fn read_row<'a>(
     out_of_range: &mut Option<usize>,
     bytes: &'a [u8],
 ) -> Result<(Option<KeyBytes>, &'a [u8]), Stop>
-    ensures { GivesSome (λ a x. ((a, out_of_range.new), x.1.now)) (λ within x. IsWithinOf (columns_of schema.now) within x.0) result
+    ensures { GivesSome (λ a x. ((a, out_of_range.new), x.1.now))
+        (λ within x. IsWithinOf (columns_of schema.now) within x.0) result
         (row_within (columns_of schema.now) out_of_range.old bytes.now) }
 {
     let mut string: KeyBytes = ByteList::new(alloc);
@@ -75,7 +77,8 @@ fn read_within<'a>(
     out_of_range: &mut Option<usize>,
     bytes: &'a [u8],
 ) -> Result<(Option<KeyBytes>, &'a [u8]), Stop>
-    ensures { GivesSome (λ a x. ((a, out_of_range.new), x.1.now)) (λ within x. IsWithinOf (columns_of schema.now) within x.0) result
+    ensures { GivesSome (λ a x. ((a, out_of_range.new), x.1.now))
+        (λ within x. IsWithinOf (columns_of schema.now) within x.0) result
         (within_by (columns_of schema.now) schema.now.static_value out_of_range.old bytes.now) }
 {
     match (schema.static_value, bytes) {
@@ -91,7 +94,8 @@ fn read_asked<'a>(
     out_of_range: &mut Option<usize>,
     bytes: &'a [u8],
 ) -> Result<(AskedKey, &'a [u8]), Stop>
-    ensures { GivesSome (λ a x. ((a, out_of_range.new), x.1.now)) (λ key x. AreStringsOf (columns_of schema.now) key x.0) result
+    ensures { GivesSome (λ a x. ((a, out_of_range.new), x.1.now))
+        (λ key x. AreStringsOf (columns_of schema.now) key x.0) result
         (asked_at (columns_of schema.now) out_of_range.old bytes.now) }
 {
     let mut partition: KeyBytes = ByteList::new(alloc);

@@ -1,5 +1,5 @@
-//! What the command `get` shows: the literal of the value that a table's files have at a key, or `none`. The command reads
-//! the key's text here, after the schema's file, and asks an open table for it.
+//! What the command `get` shows: the literal of the value that a table's files have at a key, or `none`. The key's text
+//! is read here, after the schema's file, and an open table is asked for it.
 #![tactic(auto)]
 
 mod asked;
@@ -12,3 +12,6 @@ pub use asked::{AskedKey, KeyStop, read_key};
 pub use error::GetError;
 pub use laws::law_get_lines;
 pub use showing::show_value;
+
+#[cfg(test)]
+mod tests;
