@@ -1,7 +1,7 @@
 -- The command line that the tool declares to `clap`.
 use Rattle.std.specs.Prelude.{true, [], ◌∷◌, codes}
 use Rattle.clap.specs.Simple.{App, Shape, new_shape}
-use Rattle.command_line.specs.Forms.{flag, with, with_commands, with_options, with_required}
+use Rattle.command_line.specs.Forms.{flag, with, with_commands, with_options, with_required, word}
 
 -- `list --schema S`
 abbrev pub list : Shape
@@ -10,6 +10,10 @@ list = with_required (new_shape (codes "list")) (codes "schema" ∷ [])
 -- `load --schema S`
 abbrev pub load : Shape
 load = with_required (new_shape (codes "load")) (codes "schema" ∷ [])
+
+-- `get K`
+abbrev pub get : Shape
+get = with (new_shape (codes "get")) (word (codes "key"))
 
 -- `scan`
 abbrev pub scan : Shape
@@ -33,4 +37,4 @@ bare = record {
 
 -- the command line: its commands
 abbrev pub tool : App
-tool = with_commands bare (list ∷ load ∷ scan ∷ key ∷ [])
+tool = with_commands bare (list ∷ load ∷ get ∷ scan ∷ key ∷ [])

@@ -8,7 +8,7 @@ use Rattle.clap.specs.Simple.{subcommand_of}
 use Rattle.clap.specs.Kinds.{Kinds}
 use Rattle.clap.specs.Faults.{fault_of}
 use Rattle.command_line.specs.Grammar.{tool}
-use Rattle.command_line.specs.Said.{Said, Way, list, load, scan, key, encode, decode}
+use Rattle.command_line.specs.Said.{Said, Way, list, load, get, scan, key, encode, decode}
 use Rattle.command_line.specs.declared.command.WordsError.{WordsError}
 use Rattle.command_line.specs.declared.command.WordsError.TheVariants.{Usage}
 
@@ -52,6 +52,10 @@ list_in rows = reads (needed_text (first_of (codes "schema") rows)) (λ schema. 
 abbrev pub load_in : List Row → Result Said WordsError
 load_in rows = reads (needed_text (first_of (codes "schema") rows)) (λ schema. Ok (load schema))
 
+-- `get` with its value
+abbrev pub get_in : List Row → Result Said WordsError
+get_in rows = reads (needed_text (first_of (codes "key") rows)) (λ key. Ok (get key))
+
 -- a flag is there: `clap` says so by the text true
 abbrev pub is_set : Option Text → Bool
 is_set None = false
@@ -73,8 +77,9 @@ key_in rows = reads (needed_text (first_of (codes "schema") rows)) (λ schema.
 abbrev pub said_by : Text → List Row → Result Said WordsError
 said_by name rows = if bytes_eq name (codes "list") then list_in rows
     else (if bytes_eq name (codes "load") then load_in rows
+    else (if bytes_eq name (codes "get") then get_in rows
     else (if bytes_eq name (codes "scan") then Ok scan
-    else (if bytes_eq name (codes "key") then key_in rows else Err Usage)))
+    else (if bytes_eq name (codes "key") then key_in rows else Err Usage))))
 
 -- what the words that were found say
 abbrev pub said_in : Result (Option (Text × List Row)) WordsError → Result Said WordsError

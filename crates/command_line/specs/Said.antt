@@ -18,6 +18,7 @@ pub data Way : Type 0 where
 pub data Said : Type 0 where
   list : (schema : Text) → Said
   load : (schema : Text) → Said
+  get : (key : Text) → Said
   scan : Said
   key : (schema : Text) → (clustering : Bool) → (way : Way) → Said
 
@@ -30,6 +31,7 @@ way_of (Decode text) = decode (string_bytes text)
 abbrev pub said_of : Command → Said
 said_of (command.List arguments) = list (string_bytes arguments.schema)
 said_of (command.Load arguments) = load (string_bytes arguments.schema)
+said_of (command.Get arguments) = get (string_bytes arguments.key)
 said_of command.Scan = scan
 said_of (command.Key arguments) = key (string_bytes arguments.schema) arguments.clustering (way_of arguments.way)
 

@@ -16,6 +16,13 @@ pub struct LoadArguments {
     pub schema: String,
 }
 
+/// The values of `get`.
+#[derive(Debug, Drop)]
+pub struct GetArguments {
+    /// The key, as its text.
+    pub key: String,
+}
+
 /// What `key` is to do.
 #[derive(Debug, Drop)]
 pub enum KeyWay {
@@ -43,6 +50,8 @@ pub enum Command {
     List(ListArguments),
     /// `load --schema S`
     Load(LoadArguments),
+    /// `get K`
+    Get(GetArguments),
     /// `scan`
     Scan,
     /// `key --schema S [--clustering] --encode L` or `.. --decode H`

@@ -7,7 +7,7 @@ mod getters;
 mod laws;
 mod reading;
 
-pub use command::{Command, KeyArguments, KeyWay, ListArguments, LoadArguments, WordsError};
+pub use command::{Command, GetArguments, KeyArguments, KeyWay, ListArguments, LoadArguments, WordsError};
 pub use laws::{law_key, law_list};
 pub use reading::read_words;
 

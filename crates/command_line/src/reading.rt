@@ -3,10 +3,10 @@ ghost use Rattle.std.specs.Prelude.{◌≡◌, ◌↔◌, map};
 ghost use Rattle.std.specs.List.{list_any};
 ghost use Rattle.std.specs.String.{string_bytes};
 ghost use Rattle.clap.specs.Words.{found_of, kind_of, rows_of, subcommand_rows_of};
-ghost use Rattle.command_line.specs.Reading.{command_of, found_in, is_refused, key_in, list_in, load_in, said_by};
+ghost use Rattle.command_line.specs.Reading.{command_of, found_in, get_in, is_refused, key_in, list_in, load_in, said_by};
 ghost use Rattle.command_line.specs.Said.{AnswersCommand, said_of};
 
-use crate::command::{Command, KeyArguments, ListArguments, LoadArguments, WordsError};
+use crate::command::{Command, GetArguments, KeyArguments, ListArguments, LoadArguments, WordsError};
 use crate::declared::tool;
 use crate::getters::{chosen, is_set, needed_text, one_way};
 use clap::error::ErrorKind;
@@ -66,6 +66,13 @@ fn load(alloc: Global, matches: &ArgMatches) -> Result<Command, WordsError>
     Ok(Command::Load(LoadArguments { schema }))
 }
 
+fn get(alloc: Global, matches: &ArgMatches) -> Result<Command, WordsError>
+    ensures { AnswersCommand said_of result (get_in (rows_of (found_of matches.now))) }
+{
+    let key = needed_text(alloc, matches, "key")?;
+    Ok(Command::Get(GetArguments { key }))
+}
+
 fn key(alloc: Global, matches: &ArgMatches) -> Result<Command, WordsError>
     ensures { AnswersCommand said_of result (key_in (rows_of (found_of matches.now))) }
 {
@@ -85,6 +92,7 @@ fn command(alloc: Global, name: &str, matches: &ArgMatches) -> Result<Command, W
     match name {
         "list" => list(alloc, matches),
         "load" => load(alloc, matches),
+        "get" => get(alloc, matches),
         "scan" => Ok(Command::Scan),
         "key" => key(alloc, matches),
         _ => Err(WordsError::Usage),

@@ -23,12 +23,13 @@ fn key_said(alloc: Global, arguments: KeyArguments) -> Result<String, AllocError
     }
 }
 
-/// The schema of `list` or `load`, what `key` says, or `scan`, or `usage`.
+/// The schema of `list` or `load`, the key of `get`, what `key` says, or `scan`, or `usage`.
 fn said_by(alloc: Global, words: &[&str]) -> Result<String, AllocError> {
     let texts = words_of(alloc, words)?;
     match read_words(alloc, texts.as_slice()) {
         Ok(Command::List(arguments)) => Ok(arguments.schema),
         Ok(Command::Load(arguments)) => Ok(arguments.schema),
+        Ok(Command::Get(arguments)) => Ok(arguments.key),
         Ok(Command::Scan) => String::from_str(alloc, "scan"),
         Ok(Command::Key(arguments)) => key_said(alloc, arguments),
         Err(WordsError::Usage) => String::from_str(alloc, "usage"),
@@ -39,7 +40,7 @@ fn said_by(alloc: Global, words: &[&str]) -> Result<String, AllocError> {
 #[test]
 fn takes_the_commands(rt: HostRuntime) -> Result<(), AllocError> {
     let alloc = rt.alloc();
-    let table: [(&[&str], &str); 14] = [
+    let table: [(&[&str], &str); 16] = [
         (&["list", "--schema", "(int; ; text)"], "(int; ; text)"),
         (&["list", "--schema=(int; ; text)"], "(int; ; text)"),
         (&["list", "--schema="], ""),
@@ -48,6 +49,8 @@ fn takes_the_commands(rt: HostRuntime) -> Result<(), AllocError> {
         (&["list", "--schema", "list"], "list"),
         (&["list", "--schema", "-"], "-"),
         (&["load", "--schema", "(int; ; text)"], "(int; ; text)"),
+        (&["get", "(1) (2)"], "(1) (2)"),
+        (&["get", ""], ""),
         (&["scan"], "scan"),
         (
             &["key", "--schema", "s", "--encode", "(1)"],
@@ -74,7 +77,7 @@ fn takes_the_commands(rt: HostRuntime) -> Result<(), AllocError> {
 #[test]
 fn refuses_other_words(rt: HostRuntime) -> Result<(), AllocError> {
     let alloc = rt.alloc();
-    let table: [&[&str]; 36] = [
+    let table: [&[&str]; 40] = [
         &[],
         &[""],
         &["list"],
@@ -93,6 +96,10 @@ fn refuses_other_words(rt: HostRuntime) -> Result<(), AllocError> {
         &["list", "--=s"],
         &["list", "--schema", "s", "--cells", "9"],
         &["load"],
+        &["get"],
+        &["get", "(1)", "(2)"],
+        &["get", "-1"],
+        &["get", "--key", "(1)"],
         &["scan", "--schema", "s"],
         &["scan", "list"],
         &["key"],

@@ -1,5 +1,5 @@
 -- What the readers of the index files answer.
-use Rattle.std.specs.Prelude.{◌≡◌, ℕ, ◌-◌, ℤ, pos, negsuc, List, ◌++◌, length, take, drop, nat_lt, Option, Result, Ok, Err, IfOk, IfSome, if◌then◌else◌}
+use Rattle.std.specs.Prelude.{◌≡◌, ℕ, ◌-◌, ◌≤◌, ℤ, pos, negsuc, List, ◌++◌, length, take, drop, nat_lt, Option, Result, Ok, Err, IfOk, IfSome, if◌then◌else◌}
 use Rattle.outside.specs.declared.store.FileId.{FileId}
 use Rattle.outside.specs.declared.store.Part.{Part}
 use Rattle.outside.specs.Files.{Files, bytes_of}
@@ -20,6 +20,10 @@ use Rattle.index_files.specs.Footers.{EndsIn, IsFooter, NoFooter}
 abbrev pub Adds : {T E : Type 0} → Option Files → FileId → ℕ → ℕ → List ℕ → Result T E → List ℕ → Type 0
 Adds files file at count old result new =
     IfSome files (λ m. IfOk result (λ _. new ≡ old ++ take count (drop at (bytes_of m file))))
+
+-- at Ok so many bytes at most were put behind those that were held
+abbrev pub GrowsWithin : {T E : Type 0} → ℕ → List ℕ → Result T E → List ℕ → Type 0
+GrowsWithin count old result new = IfOk result (λ _. (more : List ℕ) × (new ≡ old ++ more) × (length more ≤ count))
 
 -- where the number of a partition leads: one from 0 up to its entry, and a negative one to the head at its complement
 abbrev pub partition_place : ℤ → PartitionPlace

@@ -13,7 +13,7 @@ pub use entry::{EntryNumbers, EntryParts, entry_in};
 pub use footer::{FooterNumbers, FooterParts, footer_in};
 pub use place::{PartitionPlace, partition_place};
 pub use reading::{read_entry, read_footer};
-pub use span::read_span;
+pub use span::{add_from_page, read_span};
 
 #[cfg(test)]
 mod tests;

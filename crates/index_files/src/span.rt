@@ -1,12 +1,12 @@
-//! Bytes of a file from a place on, through the cache of pages. The readers of the footer and of entries call it, since
-//! what they read may stand on two pages.
+//! Bytes of a file from a place on, through the cache of pages. The readers of the footer, of entries and of heads call
+//! it, since what they read may stand on two pages, and whoever reads on from a place page by page.
 ghost use Rattle.std.specs.Prelude.{◌≡◌, ◌<◌, ◌≤◌, ◌+◌, ◌%◌, ◌^◌, ◌++◌, length, take, drop, Err, IfErr, IfOk, IfSome};
 ghost use Rattle.outside.specs.Causes.{Rose};
 ghost use Rattle.outside.specs.Files.{bytes_of};
 ghost use Rattle.page_cache.specs.Pages.{Honest};
 ghost use Rattle.page_cache.specs.declared.error.ReadError.TheVariants as read;
 ghost use Rattle.data_file.specs.Answers.{IsStop};
-ghost use Rattle.index_files.specs.Reading.{Adds};
+ghost use Rattle.index_files.specs.Reading.{Adds, GrowsWithin};
 
 use data_file::DataError;
 use key_types::ByteList;
@@ -41,8 +41,8 @@ fn stopped(e: ReadError) -> DataError
 }
 
 /// Puts the file's bytes from a place on behind those that are held, as many as asked for or as there are. They stand
-/// on one page.
-fn add_from_page<K: Store>(
+/// on one page, which is read where it isn't held.
+pub fn add_from_page<K: Store>(
     cache: &mut PageCache,
     store: &mut K,
     file: FileId,
@@ -53,6 +53,7 @@ fn add_from_page<K: Store>(
     requires honest { Honest (K.files store.old) cache.old }
     requires page { at % 4096 + count ≤ 4096 }
     ensures added { Adds (K.files store.old) file at count held.old result held.new }
+    ensures on { GrowsWithin count held.old result held.new }
     ensures stops { IfErr result IsStop }
     ensures honest { Honest (K.files store.new) cache.new }
     ensures files { K.files store.new ≡ K.files store.old }

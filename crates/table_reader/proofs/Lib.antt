@@ -1,2 +1,10 @@
 pub mod Tables
 pub mod Rows
+pub mod Held
+pub mod Places
+pub mod Steps
+pub mod Lookup
+pub mod InBlock
+pub mod Indexed
+pub mod Whole
+pub mod Footers

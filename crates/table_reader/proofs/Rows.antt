@@ -1,6 +1,6 @@
 -- Rows that a search passes over, and what it meets behind them.
-use Rattle.std.proofs.Common.{◌≡◌, ◌∙◌, ℕ, ◌+◌, ◌<◌, ◌≤◌, List, [], ◌∷◌, ◌++◌, length, drop, Option, None, Some, Result, Ok, Err, inl, inr, ap, arith, refl, subst, sym, append_assoc, length-append}
-use Rattle.std.proofs.lemmas.List.{append-nil}
+use Rattle.std.proofs.Common.{◌≡◌, ◌⊎◌, ◌∙◌, ℕ, ◌+◌, ◌<◌, ◌≤◌, List, [], ◌∷◌, ◌++◌, length, drop, Option, None, Some, Result, Ok, Err, inl, inr, ap, arith, refl, subst, sym, append_assoc, length-append}
+use Rattle.std.proofs.lemmas.List.{append-nil, drop-drop, length-drop}
 use Rattle.std.proofs.Math.Seq.{drop-append_seam}
 use Rattle.std.specs.declared.cmp.Ordering.TheVariants.{Less, Greater}
 use Rattle.key_types.specs.Columns.{Columns}
@@ -10,7 +10,7 @@ use Rattle.bti_nodes.specs.declared.damage.Damage.{Damage}
 use Rattle.data_file.specs.Answers.{damage_at}
 use Rattle.data_file.specs.Listing.{row_bytes, rows_bytes}
 use Rattle.data_file.specs.Reading.{BeginsEnd, BeginsRow, NoRow}
-use Rattle.table_reader.specs.Rows.{ArePassed, FindsRow, FindsWith, Meets}
+use Rattle.table_reader.specs.Rows.{ArePassed, FindsRow, FindsWith, IsCutAt, Meets}
 
 -- what is met at once
 met_here : (columns : Columns) (key : List ℕ) (limit at : ℕ) (bytes : List ℕ) (found : Result (Option (List ℕ)) Damage) → Meets columns key limit at bytes found → FindsRow columns key limit at bytes found
@@ -53,16 +53,35 @@ pub meets_bad : (columns : Columns) (key : List ℕ) (limit at : ℕ) (bytes : L
     → FindsWith columns key limit at bytes (Err (damage_at at BadRow))
 meets_bad columns key limit at bytes none more = met_here columns key limit at (bytes ++ more) (Err (damage_at at BadRow)) (refl, none more)
 
--- a row that is cut off, where nothing follows
-pub meets_short : (columns : Columns) (key : List ℕ) (limit at : ℕ) (bytes : List ℕ) → NoRow columns bytes
-    → FindsRow columns key limit at (bytes ++ []) (Err (damage_at at BadRow))
-meets_short columns key limit at bytes none =
-    met_here columns key limit at (bytes ++ []) (Err (damage_at at BadRow)) (refl, subst (NoRow columns) (sym (append-nil bytes)) none)
+-- a row that is cut off, behind some of the bytes
+pub cut_at : (columns : Columns) (key : List ℕ) (limit at : ℕ) (bytes : List ℕ) (place passed : ℕ) (rest : List ℕ) → place ≡ at + passed → passed ≤ length bytes
+    → rest ≡ drop passed bytes → (passed ≡ 0) ⊎ (place < limit) → NoRow columns rest → length rest < 66564
+    → ((more : List ℕ) (found : Result (Option (List ℕ)) Damage) → FindsRow columns key limit place (rest ++ more) found → FindsRow columns key limit at (bytes ++ more) found)
+    → IsCutAt columns key limit at bytes place
+cut_at columns key limit at bytes place passed rest there within left inside none few behind =
+    let met : FindsRow columns key limit place (rest ++ []) (Err (damage_at place BadRow)) =
+    met_here columns key limit place (rest ++ []) (Err (damage_at place BadRow)) (refl, subst (NoRow columns) (sym (append-nil rest)) none) in
+    let all = behind [] (Err (damage_at place BadRow)) met in
+    record {
+      damaged = subst (λ (b : List ℕ). FindsRow columns key limit at b (Err (damage_at place BadRow))) (append-nil bytes) all;
+      passed = passed;
+      there = there;
+      inside = inside;
+      within = within;
+      few = omega (arith, few, within, ap length left, length-drop passed bytes);
+      onward = λ more found f. behind more found (subst (λ (r : List ℕ). FindsRow columns key limit place (r ++ more) found) (sym left) f);
+    }
 
--- what is found in bytes with none behind them is found in them
-pub alone : (columns : Columns) (key : List ℕ) (limit at : ℕ) (bytes : List ℕ) (found : Result (Option (List ℕ)) Damage)
-    → FindsRow columns key limit at (bytes ++ []) found → FindsRow columns key limit at bytes found
-alone columns key limit at bytes found f = subst (λ (b : List ℕ). FindsRow columns key limit at b found) (append-nil bytes) f
+-- one row more is passed
+pub passed_on : (at limit place : ℕ) (bytes rest front behind : List ℕ) (size : ℕ)
+    → (k : ℕ) × (place ≡ at + k) × (k ≤ length bytes) × (rest ≡ drop k bytes) × ((k ≡ 0) ⊎ (place < limit))
+    → rest ≡ front ++ behind → length front ≡ size → place + size < limit
+    → (k : ℕ) × (place + size ≡ at + k) × (k ≤ length bytes) × (behind ≡ drop k bytes) × ((k ≡ 0) ⊎ (place + size < limit))
+passed_on at limit place bytes rest front behind size (k, there, within, left, inside) parted n below =
+    let more : length rest ≡ size + length behind = ap length parted ∙ length-append front behind ∙ ap (λ m. m + length behind) n in
+    let rest_is : behind ≡ drop (k + size) bytes =
+    sym (drop-append_seam front behind) ∙ ap (drop (length front)) (sym parted ∙ left) ∙ ap (λ m. drop m (drop k bytes)) n ∙ drop-drop size k bytes in
+    (k + size, omega (arith, there), omega (arith, more, ap length left, length-drop k bytes), rest_is, inr below)
 
 -- what is found behind a row that is passed over is found from that row on
 pub passes_row : (columns : Columns) (key : List ℕ) (limit at place : ℕ) (bytes clustering value front behind more : List ℕ) (found : Result (Option (List ℕ)) Damage)

@@ -1,5 +1,6 @@
 -- The search for a row in a block. This project's own.
-use Rattle.std.specs.Prelude.{◌≡◌, ◌⊎◌, ℕ, ◌+◌, ◌<◌, ◌≤◌, List, [], ◌∷◌, ◌++◌, length, Option, None, Some, Result, Ok, Err}
+use Rattle.std.specs.Prelude.{◌≡◌, ◌⊎◌, ℕ, ◌+◌, ◌<◌, ◌≤◌, Option, None, Some, Result, Ok, Err}
+use Rattle.std.specs.Prelude.{List, [], ◌∷◌, ◌++◌, length, drop}
 use Rattle.std.specs.declared.cmp.Ordering.TheVariants.{Less, Greater}
 use Rattle.key_types.specs.Columns.{Columns}
 use Rattle.key_types.specs.Table.{string_cmp}
@@ -56,8 +57,20 @@ pub record FindsRow (columns : Columns) (key : List ℕ) (limit at : ℕ) (bytes
 abbrev pub FindsWith : Columns → List ℕ → ℕ → ℕ → List ℕ → Result (Option (List ℕ)) Damage → Type 0
 FindsWith columns key limit at bytes found = (more : List ℕ) → FindsRow columns key limit at (bytes ++ more) found
 
--- Where a search stopped: at damage; or at a row that is cut off, which is damage where nothing follows the bytes, and
--- from which a search goes on where something does.
+-- The search comes to a row that is cut off, at a place behind some of the bytes: it is damage where nothing follows
+-- the bytes, and where something does, what is found from that place on is found.
+pub record IsCutAt (columns : Columns) (key : List ℕ) (limit at : ℕ) (bytes : List ℕ) (place : ℕ) : Type 0 where
+  pub damaged : FindsRow columns key limit at bytes (Err (damage_at place BadRow))
+  pub passed : ℕ
+  pub there : place ≡ at + passed
+  pub inside : (passed ≡ 0) ⊎ (place < limit)
+  pub within : passed ≤ length bytes
+  pub few : length bytes < passed + 66564
+  pub onward : (more : List ℕ) (found : Result (Option (List ℕ)) Damage)
+      → FindsRow columns key limit place (drop passed bytes ++ more) found
+      → FindsRow columns key limit at (bytes ++ more) found
+
+-- Where a search stopped: at damage, or at a row that is cut off.
 abbrev pub StopsAt : Columns → List ℕ → ℕ → ℕ → List ℕ → Stop → Type 0
 StopsAt columns key limit at bytes (Bad place) = FindsWith columns key limit at bytes (Err (damage_at place BadRow))
-StopsAt columns key limit at bytes (Short place) = FindsRow columns key limit at bytes (Err (damage_at place BadRow))
+StopsAt columns key limit at bytes (Short place) = IsCutAt columns key limit at bytes place

@@ -3,11 +3,17 @@
 #![tactic(auto)]
 
 mod block;
+mod block_at;
 mod fault;
+mod get;
+mod laws;
+mod place;
+mod row_value;
 mod table;
 
 pub use block::{Stop, find_row};
 pub use fault::TableFault;
+pub use laws::{law_footers, law_gets};
 pub use table::OpenTable;
 
 #[cfg(test)]

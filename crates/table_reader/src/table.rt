@@ -1,16 +1,20 @@
 //! An open table: its schema, its footer, and pages of its files. `open` reads the schema alone, and `load_footer`
 //! comes before the first lookup. What a table holds is that of the files of its generation as long as nobody changes
 //! them.
-ghost use Rattle.std.specs.Prelude.{◌≡◌, ◌≤◌, ◌+◌, [], Err, IfOk, IfSome, None, OnErr};
+ghost use Rattle.std.specs.Prelude.{◌≡◌, ◌≤◌, ◌+◌, [], Err, IfOk, IfSome, IsSome, None, OnErr, OnOk};
+ghost use Rattle.std.specs.Prelude.{option_copied};
 ghost use Rattle.outside.specs.Causes.{Rose};
 ghost use Rattle.outside.specs.Files.{bytes_of};
 ghost use Rattle.key_types.specs.Columns.{columns_of};
 ghost use Rattle.table_files.specs.Names.{partitions_id, schema_id};
+ghost use Rattle.table_reader.specs.Gets.{Gets, bytes_in};
 ghost use Rattle.table_reader.specs.Opened.{LoadsFooter, OpensTable, StandsIn};
+ghost use Rattle.table_reader.specs.Reads.{EndsGet, IsBounded};
 
 use crate::fault::TableFault;
+use crate::get::value_of;
 use index_files::{FooterNumbers, read_footer};
-use key_types::Schema;
+use key_types::{Schema, ValueBytes};
 use outside::Store;
 use page_cache::PageCache;
 use std::alloc::Global;
@@ -85,6 +89,7 @@ impl OpenTable {
             (bytes_of m (partitions_id self.old.generation)) self.new.footer result) }
         ensures stands { StandsIn (K.files store.new) self.new }
         ensures same { self.new ≡ record self.old { footer = self.new.footer; pages = self.new.pages } }
+        ensures loaded { OnOk result (IsSome self.new.footer) }
         ensures kept { OnErr result (self.new.footer ≡ self.old.footer) }
         ensures files { K.files store.new ≡ K.files store.old }
         ensures reads { K.reads store.new ≤ K.reads store.old + 2 }
@@ -97,6 +102,47 @@ impl OpenTable {
                 self.footer = Some(numbers);
                 Ok(())
             }
+            Err(e) => Err(TableFault::from(e)),
+        }
+    }
+
+    /// The value of a key, by the strings of its partition and of its clustering; the partition's static value where
+    /// no clustering is given. `None` where the table has none. Damage is told exactly at the first damaged one of the
+    /// places that a get asks for.
+    pub fn get<K: Store>(
+        &mut self,
+        store: &mut K,
+        partition: &[u8],
+        clustering: Option<&[u8]>,
+    ) -> Result<Option<ValueBytes>, TableFault>
+        requires stands { StandsIn (K.files store.old) self.old }
+        requires loaded { IsSome self.old.footer }
+        ensures value { IfSome (K.files store.old) (λ m. IfSome self.old.footer (λ footer. EndsGet
+            (Gets (bytes_in (columns_of self.old.schema) m self.old.generation) footer partition.now
+            (option_copied clustering.entry)) result)) }
+        ensures stands { StandsIn (K.files store.new) self.new }
+        ensures same { self.new ≡ record self.old { pages = self.new.pages } }
+        ensures files { K.files store.new ≡ K.files store.old }
+        ensures reads { IfSome (K.files store.old) (λ m. IfSome self.old.footer (λ footer. OnOk result (IsBounded
+            (bytes_in (columns_of self.old.schema) m self.old.generation) footer partition.now
+            (option_copied clustering.entry) (K.reads store.old) (K.reads store.new)))) }
+        ensures later { K.faults store.old ≤ K.faults store.new }
+        ensures fault { result ≡ Err TableFault.StoreFault → Rose (K.faults store.old) (K.faults store.new) }
+    {
+        let Some(footer) = self.footer else {
+            return Ok(None);
+        };
+        match value_of(
+            self.alloc,
+            &self.schema,
+            &mut self.pages,
+            store,
+            self.generation,
+            footer,
+            partition,
+            clustering,
+        ) {
+            Ok(value) => Ok(value),
             Err(e) => Err(TableFault::from(e)),
         }
     }

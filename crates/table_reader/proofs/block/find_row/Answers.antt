@@ -4,7 +4,7 @@ use Rattle.std.specs.FinMap as map
 use Rattle.length_prefix.specs.Counted.{counted}
 use Rattle.key_types.specs.Columns.{columns_of}
 use Rattle.data_file.specs.Listing.{row_bytes}
-use Rattle.table_reader.proofs.Rows.{alone, meets_above, meets_bad, meets_end, meets_last, meets_row, meets_short, passes_row}
+use Rattle.table_reader.proofs.Rows.{cut_at, meets_above, meets_bad, meets_end, meets_last, meets_row, passed_on, passes_row}
 use Rattle.table_reader.proofs.block.find_row.Goals as goal
 
 -- what is found, as the match tells it
@@ -24,8 +24,10 @@ returns-in-Ok-None-clause-found c =
 
 pub returns-in-Err-Short-clause-stops : goal.returns-in-Err-Short-clause-stops
 returns-in-Err-Short-clause-stops c =
-    alone (columns_of c.args.schema.now) c.args.key.now c.args.limit c.args.at c.args.bytes.now _
-    (c.rows.invariant.behind _ _ (meets_short (columns_of c.args.schema.now) c.args.key.now c.args.limit c.rows.place c.rows.rest.now (c.in-Err-Short.ensures.short (ap Err c.in-Err-Short.field-0-is)).0))
+    let short = c.in-Err-Short.ensures.short (ap Err c.in-Err-Short.field-0-is) in
+    let way = c.rows.invariant.passed in
+    cut_at (columns_of c.args.schema.now) c.args.key.now c.args.limit c.args.at c.args.bytes.now c.rows.place way.0 c.rows.rest.now way.1 way.2 way.3 way.4
+    short.0 short.1 c.rows.invariant.behind
 
 pub returns-in-Err-Bad-clause-stops : goal.returns-in-Err-Bad-clause-stops
 returns-in-Err-Bad-clause-stops c =
@@ -54,7 +56,8 @@ rows-preserved c =
     let row = c.in-Ok-Some.row in
     let size = 5 + length row.clustering.now + length row.value.now in
     record {
-      whole = omega (arith, c.rows.invariant.whole, c.split_at.ensures.front_len, length-append c.split_at.result.0.now c.split_at.result.1.now, ap length c.split_at.ensures.by_index.0);
+      passed = passed_on c.args.at c.args.limit c.rows.place c.args.bytes.now c.rows.rest.now c.split_at.result.0.now c.split_at.result.1.now size c.rows.invariant.passed
+          c.split_at.ensures.by_index.0 c.split_at.ensures.front_len (omega (arith, c.if-limit-place.false));
       behind = λ more found f. c.rows.invariant.behind more found
           (passes_row (columns_of c.args.schema.now) c.args.key.now c.args.limit c.rows.place (c.rows.place + size) c.rows.rest.now row.clustering.now row.value.now c.split_at.result.0.now c.split_at.result.1.now more found
           (row_there _ _ c.in-Ok-Some.field-0 row c.in-Ok-Some.ensures.row c.in-Ok-Some.field-0-is) (sym c.compare_bytes.ensures ∙ c.in-Less.is) (omega (arith, row_size row.clustering.now row.value.now)) (omega (arith, c.if-limit-place.false)) c.split_at.ensures.by_index.0

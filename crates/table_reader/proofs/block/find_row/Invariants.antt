@@ -1,4 +1,4 @@
-use Rattle.std.proofs.Common.{◌≡◌, ◌+◌, ◌++◌, ℕ, List, Option, Result, length}
+use Rattle.std.proofs.Common.{◌≡◌, ◌⊎◌, ◌+◌, ◌<◌, ◌≤◌, ◌++◌, ℕ, List, Option, Result, drop, length}
 use Rattle.key_types.specs.Columns.{columns_of}
 use Rattle.bti_nodes.specs.declared.damage.Damage.{Damage}
 use Rattle.table_reader.specs.Rows.{FindsRow}
@@ -6,7 +6,7 @@ use Rattle.table_reader.proofs.block.find_row.Given as goal
 
 abbrev pub invariant-rows : goal.invariant-rows
 invariant-rows l = record {
-  whole : l.place + length l.rest ≡ l.at + length l.bytes;
+  passed : (k : ℕ) × (l.place ≡ l.at + k) × (k ≤ length l.bytes) × (l.rest ≡ drop k l.bytes) × ((k ≡ 0) ⊎ (l.place < l.limit));
   behind : (more : List ℕ) (found : Result (Option (List ℕ)) Damage) → FindsRow (columns_of l.schema) l.key l.limit l.place (l.rest ++ more) found
       → FindsRow (columns_of l.schema) l.key l.limit l.at (l.bytes ++ more) found;
 }
