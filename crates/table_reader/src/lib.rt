@@ -4,10 +4,13 @@
 
 mod block;
 mod fault;
+mod partition;
+mod seek;
 mod table;
 
 pub use block::{Stop, find_row};
 pub use fault::TableFault;
+pub use seek::{BoundString, Start};
 pub use table::OpenTable;
 
 #[cfg(test)]

@@ -21,11 +21,11 @@ use table_files::{partitions_id, read_schema};
 /// are loaded, and the pages that it holds.
 #[derive(Drop)]
 pub struct OpenTable {
-    alloc: Global,
-    generation: u32,
-    schema: Schema,
-    footer: Option<FooterNumbers>,
-    pages: PageCache,
+    pub(crate) alloc: Global,
+    pub(crate) generation: u32,
+    pub(crate) schema: Schema,
+    pub(crate) footer: Option<FooterNumbers>,
+    pub(crate) pages: PageCache,
 }
 
 impl Model for OpenTable {
