@@ -4,14 +4,18 @@
 
 mod block;
 mod fault;
+mod next;
 mod partition;
 mod seek;
 mod table;
+mod walker;
+mod window;
 
 pub use block::{Stop, find_row};
 pub use fault::TableFault;
 pub use seek::{BoundString, Start};
 pub use table::OpenTable;
+pub use walker::EntryStrings;
 
 #[cfg(test)]
 mod tests;
