@@ -4,3 +4,4 @@ pub mod Seeks
 pub mod Windows
 pub mod Steps
 pub mod Giving
+pub mod Scanning

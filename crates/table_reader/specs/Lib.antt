@@ -6,3 +6,4 @@ pub mod SeekReads
 pub mod Window
 pub mod Ranges
 pub mod Parts
+pub mod Scans

@@ -6,6 +6,7 @@ mod block;
 mod fault;
 mod next;
 mod partition;
+mod scan;
 mod seek;
 mod table;
 mod walker;
@@ -13,6 +14,7 @@ mod window;
 
 pub use block::{Stop, find_row};
 pub use fault::TableFault;
+pub use scan::Scan;
 pub use seek::{BoundString, Start};
 pub use table::OpenTable;
 pub use walker::EntryStrings;

@@ -1,11 +1,8 @@
-//! Scans over a range of a table's entries. `scan` finds where a range begins, and `next_entry` gives its entries one by
-//! one; between two calls a scan holds what it has read ahead of Data.db.
-ghost use Rattle.std.specs.Prelude.{◌≡◌, ◌≤◌, ◌+◌, ◌<◌, ◌^◌, false, Err, IfSome, None, Some};
+//! The next entry of a range, step by step. A table's scans call it.
+ghost use Rattle.std.specs.Prelude.{◌≡◌, ◌≤◌, Err, IfSome};
 ghost use Rattle.outside.specs.Causes.{Rose};
 ghost use Rattle.outside.specs.Files.{bytes_of};
 ghost use Rattle.key_types.specs.Columns.{columns_of};
-ghost use Rattle.table_files.specs.Names.{data_id};
-ghost use Rattle.table_reader.specs.Opened.{StandsIn};
 ghost use Rattle.table_reader.specs.Ranges.{scanning_of, Gives};
 ghost use Rattle.table_reader.specs.Window.{Continues};
 
@@ -16,7 +13,7 @@ use outside::{FileId, Store};
 use std::alloc::Global;
 
 /// The next entry of the range of a walk.
-fn next_of<K: Store>(
+pub fn next_of<K: Store>(
     alloc: Global,
     schema: &Schema,
     store: &mut K,

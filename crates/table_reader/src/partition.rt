@@ -69,7 +69,7 @@ pub fn follow<K: Store>(
 }
 
 /// Damage of Data.db at a position.
-fn damaged(position: u64, cause: Cause) -> DataError
+pub fn damaged(position: u64, cause: Cause) -> DataError
     ensures { result ≡ DataError.Damaged (damage_at position cause) }
 {
     DataError::Damaged(Damage {

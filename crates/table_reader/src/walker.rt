@@ -3,18 +3,17 @@
 ghost use Rattle.std.specs.Prelude.{◌≡◌, ◌↔◌, ◌≤◌, [], false, drop, length, None, Some, IfOk, IfSome, IsNone, IsTrue};
 ghost use Rattle.std.specs.Option.{option_copied};
 ghost use Rattle.key_types.specs.Columns.{columns_of};
-ghost use Rattle.data_file.specs.Answers.{damage_at};
 ghost use Rattle.table_reader.specs.Ranges.{order_to, within_bytes, IsAbove, IsBelow, StepIs};
 ghost use Rattle.table_reader.specs.Parts.{GivesStatic, IsStaticPartBehind, NoStaticPartBehind};
 ghost use Rattle.table_reader.specs.Window.{HasEnough};
 
+use crate::partition::damaged;
 use crate::seek::BoundString;
 use crate::window::Window;
-use bti_nodes::{Cause, Damage};
+use bti_nodes::Cause;
 use byte_order::compare_bytes;
 use data_file::{DataError, ParseRow, head_in, row_in, static_part_in};
 use key_types::{ByteList, KeyBytes, NoMemory, Schema, ValueBytes};
-use outside::Part;
 use std::alloc::Global;
 use std::cmp::Ordering;
 
@@ -122,17 +121,6 @@ fn static_entry(alloc: Global, partition: &[u8], value: &[u8]) -> Result<EntrySt
         partition: copied(alloc, partition)?,
         clustering: None,
         value: copied(alloc, value)?,
-    })
-}
-
-/// Damage of Data.db at a position.
-fn damaged(position: u64, cause: Cause) -> DataError
-    ensures { result ≡ DataError.Damaged (damage_at position cause) }
-{
-    DataError::Damaged(Damage {
-        part: Part::Data,
-        position,
-        cause,
     })
 }
 
