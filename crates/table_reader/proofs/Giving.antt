@@ -16,7 +16,7 @@ use Rattle.table_reader.specs.declared.walker.EntryStrings.{EntryStrings}
 use Rattle.table_reader.specs.declared.walker.Met.{Met}
 use Rattle.table_reader.specs.declared.walker.Met.TheVariants.{Passed, Given, Done}
 use Rattle.table_reader.specs.declared.walker.Walker.{Walker}
-use Rattle.table_reader.specs.Ranges.{Gives, GivesEntry, IsEntryBelow, IsPast, PassesBelow, Scanning, StandsStill, StepIs, entries_of, entry_of, inside_of, scanning_of}
+use Rattle.table_reader.specs.Ranges.{Gives, GivesEntry, IsEntryBelow, IsEntryOf, IsOpen, IsPast, PassesBelow, Scanning, StandsStill, StepIs, entries_of, entry_of, inside_of, scanning_of}
 use Rattle.table_reader.specs.Window.{Continues, Unread}
 
 all_append : (P : EntryStrings → Type 0) (xs ys : List EntryStrings) → AllByRecursion P xs → AllByRecursion P ys → AllByRecursion P (xs ++ ys)
@@ -52,6 +52,7 @@ module _ (columns : Columns) (file : List ℕ) where
             (subst (λ (p : ℕ). Passes columns file scan.inside scan.window.at [] scan.inside p) (sym at) here);
         from = from;
         to = to;
+        strings = λ known. (subst (IsOpen columns) (sym inside) known, tt);
       }
 
   pub passes_on : (scan mid scan' : Scanning) → PassesBelow columns file scan mid → PassesBelow columns file mid scan' → PassesBelow columns file scan scan'
@@ -62,6 +63,10 @@ module _ (columns : Columns) (file : List ℕ) where
         (passes_then scan.inside mid.inside scan'.inside scan.window.at mid.window.at scan'.window.at (entries_of p.passed) (entries_of q.passed) p.walk q.walk);
     from = q.from ∙ p.from;
     to = q.to ∙ p.to;
+    strings = λ known.
+        let one = p.strings known in
+        let two = q.strings one.0 in
+        (two.0, all_append (IsEntryOf columns) p.passed q.passed one.1 two.1);
   }
 
   -- what is given from a place that was passed to is given from the place before
@@ -84,15 +89,15 @@ module _ (columns : Columns) (file : List ℕ) where
   still_window walk walk' s c = subst (λ (u : Unread). Continues file u) (sym s.window) c
 
   pub passed_step : (walk walk' : Walker) → StepIs columns walk walk' (Ok Passed) → Continues file walk.window → Continues file walk'.window × PassesBelow columns file (scanning_of walk) (scanning_of walk')
-  passed_step walk walk' (passed, below, moves, from, to) c =
+  passed_step walk walk' (passed, below, moves, from, to, strings) c =
       let moved = moves.3 file c in
-      (moved.0, record { passed = passed; below = below; walk = moved.1; from = from; to = to })
+      (moved.0, record { passed = passed; below = below; walk = moved.1; from = from; to = to; strings = strings })
 
   pub given_step : (walk walk' : Walker) (entry : EntryStrings) → StepIs columns walk walk' (Ok (Given entry)) → Continues file walk.window
       → Continues file walk'.window × GivesEntry columns file (scanning_of walk) (scanning_of walk') entry
-  given_step walk walk' entry (below, above, moves, from, to) c =
+  given_step walk walk' entry (below, above, moves, from, to, inside, strings) c =
       let moved = moves.3 file c in
-      (moved.0, record { not_below = below; not_above = above; walk = moved.1; from = from; to = to })
+      (moved.0, record { not_below = below; not_above = above; walk = moved.1; from = from; to = to; inside = inside; strings = strings })
 
   past_by : (walk walk' : Walker) → StandsStill walk walk' → IsPast columns file (inside_of walk) walk.window.at walk.to → IsPast columns file (inside_of walk') walk'.window.at walk'.to
   past_by walk walk' s past =

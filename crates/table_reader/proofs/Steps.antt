@@ -2,7 +2,7 @@
 use Rattle.std.proofs.Common.{◌≡◌, ◌≢◌, ◌⊎◌, ℕ, ◌+◌, ◌/◌, ◌%◌, ◌<◌, ◌≤◌, Bool, true, false, List, [], ◌∷◌, ◌++◌, length, drop, Option, None, Some, Result, Ok, Err, inl, inr, refl, sym, ap, ◌∙◌, subst, arith, append_assoc, length-append, ⊎_elim}
 use Rattle.std.proofs.lemmas.List.{drop-drop, drop-append-le, append-nil}
 use Rattle.std.proofs.Math.Seq.{drop-append_seam}
-use Rattle.std.specs.Prelude.{if◌then◌else◌, IsSome, is_some}
+use Rattle.std.specs.Prelude.{if◌then◌else◌, IfSome, IsSome, is_some}
 use Rattle.std.specs.List.{AllByRecursion}
 use Rattle.key_types.specs.Columns.{Columns}
 use Rattle.key_types.specs.Table.{Entry}
@@ -27,7 +27,7 @@ use Rattle.table_reader.specs.declared.walker.EntryStrings.{EntryStrings}
 use Rattle.table_reader.specs.declared.walker.Met.TheVariants.{Passed, Given, Done}
 use Rattle.table_reader.specs.declared.walker.Walker.{Walker}
 use Rattle.table_reader.specs.Parts.{GivesStatic, IsStaticPartBehind, NoStaticPartBehind}
-use Rattle.table_reader.specs.Ranges.{IsAbove, IsBelow, IsEntryBelow, IsPast, Moves, StandsStill, StepIs, entries_of, entry_of, inside_of, within_bytes}
+use Rattle.table_reader.specs.Ranges.{IsAbove, IsBelow, IsEntryBelow, IsEntryOf, IsOpen, IsPast, Moves, StandsStill, StepIs, entries_of, entry_of, inside_of, within_bytes}
 use Rattle.table_reader.specs.Window.{Unread, Continues, HasEnough, enough}
 
 -- ---- the partition
@@ -51,6 +51,10 @@ still_outside walk walk' outside w i f t =
 
 same_walk : (walk : Walker) → StandsStill walk walk
 same_walk walk = record { window = refl; inside = refl; from = refl; to = refl }
+
+-- the walk is in no partition, or in one whose string is known
+open_there : (columns : Columns) (inside : Option (List ℕ)) (key : List ℕ) → inside ≡ Some key → IsOpen columns inside → IsStringOf columns.partition key
+open_there columns inside key is known = subst (IsOpen columns) is known
 
 -- ---- the window
 
@@ -195,11 +199,15 @@ module _ (columns : Columns) where
       (no_part_there file w key more (string_length columns.partition key string) f c full told)))
 
   -- the entries of a static part, which was given or lies below
-  static_passed : (from : Option BoundString) (key : List ℕ) (static_part : Option (List ℕ)) → GivesStatic from key static_part None
-      → (below : List EntryStrings) × AllByRecursion (IsEntryBelow from) below × (static_entries key static_part ≡ entries_of below)
-  static_passed from key None given = ([], tt, refl)
-  static_passed from key (Some value) given =
-      (record { partition = key; clustering = None; value = value } ∷ [], (given, tt), ap (λ (k : List ℕ). (k, value) ∷ []) (sym (append-nil key)))
+  static_passed : (from : Option BoundString) (key : List ℕ) (static_part : Option (List ℕ)) → IsStringOf columns.partition key → GivesStatic from key static_part None
+      → (below : List EntryStrings) × AllByRecursion (IsEntryBelow from) below × (static_entries key static_part ≡ entries_of below) × AllByRecursion (IsEntryOf columns) below
+  static_passed from key None string given = ([], tt, refl, tt)
+  static_passed from key (Some value) string given = (
+    record { partition = key; clustering = None; value = value } ∷ [],
+    (given, tt),
+    ap (λ (k : List ℕ). (k, value) ∷ []) (sym (append-nil key)),
+    (record { partition = string; clustering = tt }, tt),
+  )
 
   static_told : (from : Option BoundString) (key : List ℕ) (static_part : Option (List ℕ)) (entry : EntryStrings) → GivesStatic from key static_part (Some entry)
       → (IsEntryBelow from entry → ⊥) × (entry.partition ≡ key) × (entry.clustering ≡ None) × (static_entries key static_part ≡ entry_of entry ∷ [])
@@ -208,22 +216,29 @@ module _ (columns : Columns) where
       let P : EntryStrings → Type 0 = λ e. (IsEntryBelow from e → ⊥) × (e.partition ≡ key) × (e.clustering ≡ None) × (static_entries key (Some value) ≡ entry_of e ∷ []) in
       subst P (sym is) (apart, refl, refl, ap (λ (k : List ℕ). (k, value) ∷ []) (sym (append-nil key)))
 
-  pub enters_passing : (walk : Walker) (v : Unread) (key kept : List ℕ) (static_part : Option (List ℕ)) → kept ≡ key → GivesStatic walk.from key static_part None
+  pub enters_passing : (walk : Walker) (v : Unread) (key kept : List ℕ) (static_part : Option (List ℕ)) → kept ≡ key → IsStringOf columns.partition key → GivesStatic walk.from key static_part None
       → Moving walk.window v (inside_of walk) (Some key) (static_entries key static_part)
       → StepIs columns walk (record { window = v; key = kept; inside = true; from = walk.from; to = walk.to }) (Ok Passed)
-  enters_passing walk v key kept static_part same given moves =
-      let told = static_passed walk.from key static_part given in
+  enters_passing walk v key kept static_part same string given moves =
+      let told = static_passed walk.from key static_part string given in
       let M : List ℕ → List Entry → Type 0 = λ k es. Moving walk.window v (inside_of walk) (Some k) es in
-      (told.0, told.1, subst (λ (k : List ℕ). M k (entries_of told.0)) (sym same) (subst (M key) told.2 moves), refl, refl)
+      (
+        told.0,
+        told.1,
+        subst (λ (k : List ℕ). M k (entries_of told.0)) (sym same) (subst (M key) told.2 moves),
+        refl,
+        refl,
+        λ known. (subst (IsStringOf columns.partition) (sym same) string, told.3),
+      )
 
   not_above : (to : Option BoundString) (key : List ℕ) (entry : EntryStrings) → entry.partition ≡ key → entry.clustering ≡ None → (IsAbove to key [] → ⊥) → IsAbove to entry.partition (within_bytes entry.clustering) → ⊥
   not_above to key entry p c apart above =
       apart (subst (λ (o : Option (List ℕ)). IsAbove to key (within_bytes o)) c (subst (λ (k : List ℕ). IsAbove to k (within_bytes entry.clustering)) p above))
 
-  pub enters_giving : (walk : Walker) (v : Unread) (key kept : List ℕ) (static_part : Option (List ℕ)) (entry : EntryStrings) → kept ≡ key → GivesStatic walk.from key static_part (Some entry)
+  pub enters_giving : (walk : Walker) (v : Unread) (key kept : List ℕ) (static_part : Option (List ℕ)) (entry : EntryStrings) → kept ≡ key → IsStringOf columns.partition key → GivesStatic walk.from key static_part (Some entry)
       → (IsAbove walk.to key [] → ⊥) → Moving walk.window v (inside_of walk) (Some key) (static_entries key static_part)
       → StepIs columns walk (record { window = v; key = kept; inside = true; from = None; to = walk.to }) (Ok (Given entry))
-  enters_giving walk v key kept static_part entry same given apart moves =
+  enters_giving walk v key kept static_part entry same string given apart moves =
       let told = static_told walk.from key static_part entry given in
       let M : List ℕ → List Entry → Type 0 = λ k es. Moving walk.window v (inside_of walk) (Some k) es in
       (
@@ -232,6 +247,11 @@ module _ (columns : Columns) where
         subst (λ (k : List ℕ). M k (entry_of entry ∷ [])) (sym same) (subst (M key) told.3 moves),
         refl,
         refl,
+        ap Some (same ∙ sym told.1),
+        λ known. record {
+          partition = subst (IsStringOf columns.partition) (sym told.1) string;
+          clustering = subst (λ (o : Option (List ℕ)). IfSome o (IsStringOf columns.clustering)) (sym told.2) tt;
+        },
       )
 
   -- ---- in a partition
@@ -254,7 +274,7 @@ module _ (columns : Columns) where
   pub ends_partition : (walk : Walker) (v : Unread) → (walk.inside ≡ false → ⊥) → walk.window.at + length walk.window.bytes ≤ walk.window.limit → v ≡ passed_by 1 walk.window → BeginsEnd walk.window.bytes
       → StepIs columns walk (record { window = v; key = walk.key; inside = false; from = walk.from; to = walk.to }) (Ok Passed)
   ends_partition walk v within room is begins =
-      ([], tt, moves_end walk.window v 1 (inside_of walk) walk.key room (is_inside walk within) is refl begins, refl, refl)
+      ([], tt, moves_end walk.window v 1 (inside_of walk) walk.key room (is_inside walk within) is refl begins, refl, refl, λ known. (tt, tt))
 
   row_moves : (walk : Walker) (v : Unread) (n : ℕ) (clustering value : List ℕ) → (walk.inside ≡ false → ⊥) → walk.window.at + length walk.window.bytes ≤ walk.window.limit → v ≡ passed_by n walk.window
       → n ≡ length (row_bytes clustering value) → BeginsRow columns walk.window.bytes clustering value → Moving walk.window v (inside_of walk) (inside_of walk) ((walk.key ++ clustering, value) ∷ [])
@@ -270,6 +290,7 @@ module _ (columns : Columns) where
     row_moves walk v n clustering value within room is count begins,
     refl,
     refl,
+    λ known. (known, (record { partition = open_there columns (inside_of walk) walk.key (is_inside walk within) known; clustering = begins.0.0 }, tt)),
   )
 
   pub gives_row : (walk : Walker) (v : Unread) (n : ℕ) (clustering value key : List ℕ) (entry : EntryStrings) → (walk.inside ≡ false → ⊥) → walk.window.at + length walk.window.bytes ≤ walk.window.limit
@@ -281,7 +302,15 @@ module _ (columns : Columns) where
       let walk' : Walker = record { window = v; key = walk.key; inside = walk.inside; from = None; to = walk.to } in
       let whole : entry ≡ record { partition = walk.key; clustering = Some clustering; value = value } = made ∙ ap (λ (k : List ℕ). record { partition = k; clustering = Some clustering; value = value }) same in
       subst (λ (e : EntryStrings). StepIs columns walk walk' (Ok (Given e))) (sym whole)
-      (below, above, row_moves walk v n clustering value within room is count begins, refl, refl)
+      (
+        below,
+        above,
+        row_moves walk v n clustering value within room is count begins,
+        refl,
+        refl,
+        is_inside walk within,
+        λ known. record { partition = open_there columns (inside_of walk) walk.key (is_inside walk within) known; clustering = begins.0.0 },
+      )
 
 pub row_length : (c v : List ℕ) → 5 + length c + length v ≡ length (row_bytes c v)
 row_length c v = omega (arith, length-append (length c / 256 ∷ length c % 256 ∷ c) (length v / 256 ∷ length v % 256 ∷ v))

@@ -1,5 +1,5 @@
 -- Ranges of entries between the strings of two bounds, and the steps of a scan over a range. This project's own.
-use Rattle.std.specs.Prelude.{◌≡◌, ◌⊎◌, ℕ, ◌<◌, ◌≤◌, Bool, List, [], ◌∷◌, ◌++◌, length, drop, map, Option, None, Some, Result, Ok, Err, if◌then◌else◌}
+use Rattle.std.specs.Prelude.{◌≡◌, ◌⊎◌, ℕ, ◌<◌, ◌≤◌, Bool, List, [], ◌∷◌, ◌++◌, length, drop, map, Option, None, Some, Result, Ok, Err, IfSome, if◌then◌else◌}
 use Rattle.std.specs.List.{AllByRecursion}
 use Rattle.std.specs.declared.cmp.Ordering.{Ordering}
 use Rattle.std.specs.declared.cmp.Ordering.TheVariants.{Less, Greater}
@@ -9,6 +9,7 @@ use Rattle.key_types.specs.Table.{Entry, string_cmp}
 use Rattle.bti_nodes.specs.declared.damage.Damage.{Damage}
 use Rattle.data_file.specs.declared.reading.DataError.{DataError}
 use Rattle.data_file.specs.declared.reading.DataError.TheVariants.{StoreFault, Damaged, NoMemory}
+use Rattle.key_decode.specs.Strings.{IsStringOf}
 use Rattle.data_file.specs.Reading.{BeginsHead, BeginsRow}
 use Rattle.table_files.specs.Walk.{Passes, Stops}
 use Rattle.table_reader.specs.declared.seek.BoundString.{BoundString}
@@ -54,6 +55,15 @@ IsEntryBelow from entry = IsBelow from entry.partition (within_bytes entry.clust
 abbrev pub IsEntryAbove : Option BoundString → EntryStrings → Type 0
 IsEntryAbove to entry = IsAbove to entry.partition (within_bytes entry.clustering)
 
+-- the strings are those of an entry of a table: of a row, or of a static value
+pub record IsEntryOf (columns : Columns) (entry : EntryStrings) : Type 0 where
+  pub partition : IsStringOf columns.partition entry.partition
+  pub clustering : IfSome entry.clustering (IsStringOf columns.clustering)
+
+-- a walk is in no partition, or in one of this string
+abbrev pub IsOpen : Columns → Option (List ℕ) → Type 0
+IsOpen columns inside = IfSome inside (IsStringOf columns.partition)
+
 -- ---- steps
 
 -- the string of the partition that the walk is in
@@ -87,8 +97,10 @@ module _ (columns : Columns) where
   abbrev pub StepIs : Walker → Walker → Result Met DataError → Type 0
   StepIs walk walk' (Ok Passed) = (passed : List EntryStrings) × AllByRecursion (IsEntryBelow walk.from) passed
       × Moves walk walk' (entries_of passed) × (walk'.from ≡ walk.from) × (walk'.to ≡ walk.to)
+      × (IsOpen columns (inside_of walk) → IsOpen columns (inside_of walk') × AllByRecursion (IsEntryOf columns) passed)
   StepIs walk walk' (Ok (Given entry)) = (IsEntryBelow walk.from entry → ⊥) × (IsEntryAbove walk.to entry → ⊥)
       × Moves walk walk' (entry_of entry ∷ []) × (walk'.from ≡ None) × (walk'.to ≡ walk.to)
+      × (inside_of walk' ≡ Some entry.partition) × (IsOpen columns (inside_of walk) → IsEntryOf columns entry)
   StepIs walk walk' (Ok Done) = StandsStill walk walk'
       × ((file : List ℕ) → Continues file walk.window → IsPast columns file (inside_of walk) walk.window.at walk.to)
   StepIs walk walk' (Err (Damaged damage)) = StandsStill walk walk'
@@ -118,14 +130,17 @@ pub record PassesBelow (columns : Columns) (file : List ℕ) (scan scan' : Scann
   pub walk : Passes columns file scan.inside scan.window.at (entries_of passed) scan'.inside scan'.window.at
   pub from : scan'.from ≡ scan.from
   pub to : scan'.to ≡ scan.to
+  pub strings : IsOpen columns scan.inside → IsOpen columns scan'.inside × AllByRecursion (IsEntryOf columns) passed
 
--- an entry stands at a place, in the range; behind it nothing counts as below
+-- an entry of the table stands at a place, in the range; the scan is in its partition then, and nothing counts as below
 pub record GivesEntry (columns : Columns) (file : List ℕ) (scan scan' : Scanning) (entry : EntryStrings) : Type 0 where
   pub not_below : IsEntryBelow scan.from entry → ⊥
   pub not_above : IsEntryAbove scan.to entry → ⊥
   pub walk : Passes columns file scan.inside scan.window.at (entry_of entry ∷ []) scan'.inside scan'.window.at
   pub from : scan'.from ≡ None
   pub to : scan'.to ≡ scan.to
+  pub inside : scan'.inside ≡ Some entry.partition
+  pub strings : IsOpen columns scan.inside → IsEntryOf columns entry
 
 -- A scan goes from one place of the file to another, and gives this: the next entry of its range, behind the entries
 -- below it; none at the range's end or the file's; or damage at the first place where nothing sound begins. After an

@@ -52,7 +52,7 @@ returns-in_default-given c =
     (subst (λ (n : ℕ). IsStaticPartBehind columns (drop n c.unread-bytes.result.now) static_part count) long part)) in
     let same : c.extend.new.self ≡ key = c.in_ok-extend.ensures.ok ∙ ap (λ (l : List ℕ). l ++ key) c.truncate.ensures in
     let none : c.in_ok-given.given ≡ None = search rules in
-    enters_passing columns walk c.pass.new.self key c.extend.new.self static_part same (subst (λ (o : Option EntryStrings). GivesStatic walk.from key static_part o) none c.in_ok-given.ensures) moves
+    enters_passing columns walk c.pass.new.self key c.extend.new.self static_part same begins.0 (subst (λ (o : Option EntryStrings). GivesStatic walk.from key static_part o) none c.in_ok-given.ensures) moves
 
 pub returns : goal.returns
 returns c =
@@ -71,6 +71,6 @@ returns c =
     (subst (λ (b : List ℕ). IsStaticPartBehind columns (drop (length (head_bytes key)) b) static_part count) c.unread-bytes.ensures.bytes
     (subst (λ (n : ℕ). IsStaticPartBehind columns (drop n c.unread-bytes.result.now) static_part count) long part)) in
     let same : c.extend.new.self ≡ key = c.in_ok-extend.ensures.ok ∙ ap (λ (l : List ℕ). l ++ key) c.truncate.ensures in
-    enters_giving columns walk c.pass.new.self key c.extend.new.self static_part c.in-Some-given.entry same
+    enters_giving columns walk c.pass.new.self key c.extend.new.self static_part c.in-Some-given.entry same begins.0
     (subst (λ (o : Option EntryStrings). GivesStatic walk.from key static_part o) c.in-Some-given.is c.in_ok-given.ensures)
     (λ above. let apart : true ≡ false = sym (c.is_above.ensures.1 above) ∙ c.if-is_above.false in cc) moves
