@@ -1,5 +1,5 @@
 -- Steps of a scan, one after the other.
-use Rattle.std.proofs.Common.{◌≡◌, ◌∙◌, ℕ, List, [], ◌∷◌, ◌++◌, drop, map, Option, None, Some, IfSome, Result, Ok, Err, refl, sym, ap, subst, append_assoc}
+use Rattle.std.proofs.Common.{◌≡◌, ◌∙◌, ℕ, List, [], ◌∷◌, ◌++◌, drop, Option, None, Some, IfSome, Result, Ok, Err, refl, sym, ap, subst, append_assoc}
 use Rattle.std.specs.List.{AllByRecursion}
 use Rattle.outside.specs.Files.{Files, bytes_of}
 use Rattle.outside.specs.declared.store.FileId.{FileId}
@@ -13,7 +13,6 @@ use Rattle.data_file.specs.declared.reading.DataError.TheVariants.{StoreFault, D
 use Rattle.table_files.specs.Walk.{Passes, Stops, Walks}
 use Rattle.table_reader.specs.declared.seek.BoundString.{BoundString}
 use Rattle.table_reader.specs.declared.walker.EntryStrings.{EntryStrings}
-use Rattle.table_reader.specs.declared.walker.Met.{Met}
 use Rattle.table_reader.specs.declared.walker.Met.TheVariants.{Passed, Given, Done}
 use Rattle.table_reader.specs.declared.walker.Walker.{Walker}
 use Rattle.table_reader.specs.Ranges.{Gives, GivesEntry, IsEntryBelow, IsEntryOf, IsOpen, IsPast, PassesBelow, Scanning, StandsStill, StepIs, entries_of, entry_of, inside_of, scanning_of}
@@ -142,8 +141,7 @@ module _ (columns : Columns) (file : FileId) (first : Walker) where
   came_filled files again walk w stay at told came =
       join files again stay told came
       (λ m p q. λ c.
-      let here = q c in
-      (
+      let here = q c in (
         p here.0,
         passes_on columns (bytes_of m file) (scanning_of first) (scanning_of walk) (record { window = w; inside = inside_of walk; from = walk.from; to = walk.to }) here.1
             (passes_still columns (bytes_of m file) (scanning_of walk) (record { window = w; inside = inside_of walk; from = walk.from; to = walk.to }) refl at refl refl),

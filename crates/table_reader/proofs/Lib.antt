@@ -13,3 +13,6 @@ pub mod Windows
 pub mod ScanSteps
 pub mod Giving
 pub mod Scanning
+pub mod Orders
+mod Leaving
+mod Beginning

@@ -26,8 +26,8 @@ use Rattle.table_reader.specs.declared.seek.BoundString.{BoundString}
 use Rattle.table_reader.specs.declared.walker.EntryStrings.{EntryStrings}
 use Rattle.table_reader.specs.declared.walker.Met.TheVariants.{Passed, Given, Done}
 use Rattle.table_reader.specs.declared.walker.Walker.{Walker}
-use Rattle.table_reader.specs.Parts.{GivesStatic, IsStaticPartBehind, NoStaticPartBehind}
-use Rattle.table_reader.specs.Ranges.{IsAbove, IsBelow, IsEntryBelow, IsEntryOf, IsOpen, IsPast, Moves, StandsStill, StepIs, entries_of, entry_of, inside_of, within_bytes}
+use Rattle.table_reader.specs.Parts.{GivesStatic, IsStaticAbove, IsStaticPartBehind, NoStaticPartBehind}
+use Rattle.table_reader.specs.Ranges.{BeginsStatic, IsAbove, IsBelow, IsEntryBelow, IsEntryOf, IsOpen, IsPast, StandsStill, StepIs, entries_of, entry_of, inside_of, within_bytes}
 use Rattle.table_reader.specs.Window.{Unread, Continues, HasEnough, enough}
 
 -- ---- the partition
@@ -130,9 +130,6 @@ module _ (columns : Columns) where
   all_of : (file : List ℕ) (w : Unread) (c : Continues file w) → w.whole ≡ true → drop w.at file ≡ w.bytes
   all_of file w c whole = c.is ∙ ap (λ r. w.bytes ++ r) (c.ended whole) ∙ append-nil w.bytes
 
-  head_there : (file : List ℕ) (w : Unread) (key : List ℕ) → Continues file w → BeginsHead columns w.bytes key → BeginsHead columns (drop w.at file) key
-  head_there file w key c (string, (more, e)) = (string, (more ++ c.rest, c.is ∙ ap (λ b. b ++ c.rest) e ∙ append_assoc (head_bytes key) more c.rest))
-
   row_there : (file : List ℕ) (w : Unread) (clustering value : List ℕ) → Continues file w → BeginsRow columns w.bytes clustering value → BeginsRow columns (drop w.at file) clustering value
   row_there file w clustering value c (is, (more, e)) = (is, (more ++ c.rest, c.is ∙ ap (λ b. b ++ c.rest) e ∙ append_assoc (row_bytes clustering value) more c.rest))
 
@@ -162,18 +159,25 @@ module _ (columns : Columns) where
 
   pub ends_file : (walk : Walker) → walk.inside ≡ false → HasEnough walk.window → walk.window.bytes ≡ [] → StepIs columns walk walk (Ok Done)
   ends_file walk outside full empty =
-      let whole : walk.window.whole ≡ true = ⊎_elim (λ e. e) (λ (l : enough ≤ length walk.window.bytes). absurd (omega (arith, ap length empty))) full in
-      (
+      let whole : walk.window.whole ≡ true = ⊎_elim (λ e. e) (λ (l : enough ≤ length walk.window.bytes). absurd (omega (arith, ap length empty))) full in (
         same_walk walk,
         λ file c. subst (λ (o : Option (List ℕ)). IsPast columns file o walk.window.at walk.to) (sym (is_outside walk outside))
             (inl (all_of file walk.window c whole ∙ empty)),
       )
 
-  pub head_above : (walk : Walker) (key : List ℕ) → walk.inside ≡ false → BeginsHead columns walk.window.bytes key → IsAbove walk.to key [] → StepIs columns walk walk (Ok Done)
-  head_above walk key outside begins above = (
+  static_there : (file : List ℕ) (w : Unread) (key value : List ℕ) (count : ℕ) → Continues file w → BeginsHead columns w.bytes key
+      → IsStaticPartBehind columns (drop (length (head_bytes key)) w.bytes) (Some value) count → BeginsStatic columns (drop w.at file) key value
+  static_there file w key value count c (string, (more, e)) (fits, size, (behind, g)) =
+      let front : List ℕ = head_bytes key ++ static_part_bytes columns.static_value (Some value) in
+      (string, fits, (behind ++ c.rest, c.is ∙ ap (λ b. b ++ c.rest) (parts_there w.bytes key more behind (Some value) e g) ∙ append_assoc front behind c.rest))
+
+  pub static_above : (walk : Walker) (key : List ℕ) (static_part : Option (List ℕ)) (count : ℕ) → walk.inside ≡ false → BeginsHead columns walk.window.bytes key
+      → IsStaticPartBehind columns (drop (length (head_bytes key)) walk.window.bytes) static_part count → IsStaticAbove walk.to key static_part → StepIs columns walk walk (Ok Done)
+  static_above walk key None count outside begins part above = absurd above
+  static_above walk key (Some value) count outside begins part above = (
     same_walk walk,
     λ file c. subst (λ (o : Option (List ℕ)). IsPast columns file o walk.window.at walk.to) (sym (is_outside walk outside))
-        (inr (key, head_there file walk.window key c begins, above)),
+        (inr (key, value, static_there file walk.window key value count c begins part, above)),
   )
 
   stops_so : (walk : Walker) (e : DataError) (damage : Damage) → e ≡ Damaged damage
@@ -221,8 +225,7 @@ module _ (columns : Columns) where
       → StepIs columns walk (record { window = v; key = kept; inside = true; from = walk.from; to = walk.to }) (Ok Passed)
   enters_passing walk v key kept static_part same string given moves =
       let told = static_passed walk.from key static_part string given in
-      let M : List ℕ → List Entry → Type 0 = λ k es. Moving walk.window v (inside_of walk) (Some k) es in
-      (
+      let M : List ℕ → List Entry → Type 0 = λ k es. Moving walk.window v (inside_of walk) (Some k) es in (
         told.0,
         told.1,
         subst (λ (k : List ℕ). M k (entries_of told.0)) (sym same) (subst (M key) told.2 moves),
@@ -235,15 +238,19 @@ module _ (columns : Columns) where
   not_above to key entry p c apart above =
       apart (subst (λ (o : Option (List ℕ)). IsAbove to key (within_bytes o)) c (subst (λ (k : List ℕ). IsAbove to k (within_bytes entry.clustering)) p above))
 
+  some_static : (from to : Option BoundString) (key : List ℕ) (static_part : Option (List ℕ)) (entry : EntryStrings) → GivesStatic from key static_part (Some entry)
+      → (IsStaticAbove to key static_part → ⊥) → IsAbove to key [] → ⊥
+  some_static from to key None entry given apart above = cc
+  some_static from to key (Some value) entry given apart above = apart above
+
   pub enters_giving : (walk : Walker) (v : Unread) (key kept : List ℕ) (static_part : Option (List ℕ)) (entry : EntryStrings) → kept ≡ key → IsStringOf columns.partition key → GivesStatic walk.from key static_part (Some entry)
-      → (IsAbove walk.to key [] → ⊥) → Moving walk.window v (inside_of walk) (Some key) (static_entries key static_part)
+      → (IsStaticAbove walk.to key static_part → ⊥) → Moving walk.window v (inside_of walk) (Some key) (static_entries key static_part)
       → StepIs columns walk (record { window = v; key = kept; inside = true; from = None; to = walk.to }) (Ok (Given entry))
   enters_giving walk v key kept static_part entry same string given apart moves =
       let told = static_told walk.from key static_part entry given in
-      let M : List ℕ → List Entry → Type 0 = λ k es. Moving walk.window v (inside_of walk) (Some k) es in
-      (
+      let M : List ℕ → List Entry → Type 0 = λ k es. Moving walk.window v (inside_of walk) (Some k) es in (
         told.0,
-        not_above walk.to key entry told.1 told.2 apart,
+        not_above walk.to key entry told.1 told.2 (some_static walk.from walk.to key static_part entry given apart),
         subst (λ (k : List ℕ). M k (entry_of entry ∷ [])) (sym same) (subst (M key) told.3 moves),
         refl,
         refl,
@@ -301,8 +308,7 @@ module _ (columns : Columns) where
   gives_row walk v n clustering value key entry within room is count begins below above same made =
       let walk' : Walker = record { window = v; key = walk.key; inside = walk.inside; from = None; to = walk.to } in
       let whole : entry ≡ record { partition = walk.key; clustering = Some clustering; value = value } = made ∙ ap (λ (k : List ℕ). record { partition = k; clustering = Some clustering; value = value }) same in
-      subst (λ (e : EntryStrings). StepIs columns walk walk' (Ok (Given e))) (sym whole)
-      (
+      subst (λ (e : EntryStrings). StepIs columns walk walk' (Ok (Given e))) (sym whole) (
         below,
         above,
         row_moves walk v n clustering value within room is count begins,

@@ -1,12 +1,10 @@
 -- Where a scan begins.
-use Rattle.std.proofs.Common.{◌≡◌, ◌∙◌, ℕ, ◌≤◌, List, [], length, drop, Option, None, Some, IfOk, IfSome, Result, Ok, Err, refl, sym, ap, subst}
+use Rattle.std.proofs.Common.{◌≡◌, ℕ, List, length, drop, Option, None, Some, IfSome, Ok, refl, sym, subst}
 use Rattle.outside.specs.Files.{Files, bytes_of}
 use Rattle.key_types.specs.Columns.{columns_of}
 use Rattle.bti_reader.proofs.Asking.{join}
-use Rattle.data_file.specs.declared.reading.DataError.{DataError}
 use Rattle.index_files.specs.declared.footer.FooterNumbers.{FooterNumbers}
 use Rattle.table_files.specs.Names.{data_id}
-use Rattle.table_reader.specs.declared.fault.TableFault.{TableFault}
 use Rattle.table_reader.specs.declared.seek.BoundString.{BoundString}
 use Rattle.table_reader.specs.declared.seek.Start.{Start}
 use Rattle.table_reader.specs.declared.walker.Walker.{Walker}
@@ -17,7 +15,7 @@ use Rattle.table_reader.specs.SeekReads.{WithinScan}
 use Rattle.table_reader.specs.Gets.{bytes_in}
 use Rattle.table_reader.specs.Reads.{EndsCall}
 use Rattle.table_reader.specs.Seeking.{BeginsScan}
-use Rattle.table_reader.specs.Window.{Continues, Unread}
+use Rattle.table_reader.specs.Window.{Continues}
 
 -- what a place of a file has is what is unread there
 unread_continues : (file : List ℕ) (at : ℕ) → Continues file (unread_at at (length file))
@@ -45,7 +43,7 @@ module _ (files again : Option Files) (table : Opened) (generation : ℕ) (from 
       (λ m p q.
       with_footer m table.footer (subst (λ (g : ℕ). BeginsWalk (length (bytes_of m (data_id g))) from to start (Ok walk)) same p)
       (subst (λ (n : Option BoundString). IfSome table.footer (λ footer. EndsCall (BeginsScan (bytes_in (columns_of table.schema) m table.generation) footer n) (Ok start))) is q))
-      where
+    where
       with_footer : (m : Files) (footer : Option FooterNumbers) → BeginsWalk (length (bytes_of m (data_id table.generation))) from to start (Ok walk)
           → IfSome footer (λ f. EndsCall (BeginsScan (bytes_in (columns_of table.schema) m table.generation) f from) (Ok start))
           → IfSome footer (λ f. Scans (bytes_in (columns_of table.schema) m table.generation) f from to (Ok (scanning_of walk)))

@@ -1,5 +1,5 @@
 -- The search for a scan's beginning: what its parts say together.
-use Rattle.std.proofs.Common.{◌≡◌, ◌∙◌, ℕ, ℤ, pos, negsuc, ◌+◌, ◌<◌, ◌≤◌, List, [], length, drop, Option, None, Some, IfOk, IfSome, Result, Ok, Err, inl, inr, ap, arith, refl, subst, sym}
+use Rattle.std.proofs.Common.{◌≡◌, ◌∙◌, ℕ, ℤ, ◌+◌, ◌<◌, ◌≤◌, List, length, drop, Option, None, Some, IfOk, IfSome, Result, Ok, Err, inl, inr, ap, arith, refl, subst, sym}
 use Rattle.std.specs.Prelude.{unsigned_abs}
 use Rattle.std.specs.declared.cmp.Ordering.{Ordering}
 use Rattle.std.specs.declared.cmp.Ordering.TheVariants.{Less, Equal, Greater}
@@ -14,7 +14,7 @@ use Rattle.bti_reader.specs.declared.ask.Hit.{Hit}
 use Rattle.bti_reader.proofs.Asking.{join, join3}
 use Rattle.table_reader.proofs.Steps.{step_err, step_ok}
 use Rattle.bti_reader.specs.Searches.{Answer, ceiling_in, exact_in, floor_in}
-use Rattle.bti_reader.specs.Steps.{FindsHit, SearchAnswers, answer_of, found_len, payload_number}
+use Rattle.bti_reader.specs.Steps.{FindsHit, SearchAnswers, answer_of, payload_number}
 use Rattle.data_file.specs.declared.reading.DataError.{DataError}
 use Rattle.data_file.specs.declared.reading.DataError.TheVariants.{StoreFault, Damaged, NoMemory}
 use Rattle.data_file.specs.declared.reading.Head.{Head as Head'}
@@ -22,10 +22,7 @@ use Rattle.data_file.specs.Answers.{IsHead}
 use Rattle.data_file.specs.Listing.{head_bytes}
 use Rattle.data_file.specs.Reading.{BeginsHead}
 use Rattle.index_files.specs.declared.footer.FooterNumbers.{FooterNumbers}
-use Rattle.index_files.specs.declared.entry.EntryNumbers.{EntryNumbers}
-use Rattle.index_files.specs.declared.place.PartitionPlace.{PartitionPlace}
-use Rattle.index_files.specs.declared.place.PartitionPlace.TheVariants.{Entry, Head}
-use Rattle.index_files.specs.Reading.{ReadsEntry, partition_place}
+use Rattle.index_files.specs.Reading.{partition_place}
 use Rattle.table_files.specs.Names.{data_id, partitions_id, rows_id}
 use Rattle.table_reader.specs.Faults.{fault_of}
 use Rattle.table_reader.specs.Opened.{Opened}
@@ -241,12 +238,11 @@ module _ (columns : Columns) (generation root : ℕ) (bound : BoundString) (numb
       → IfOk result (λ _. r3 ≤ r2 + (clustering_length bound.clustering + block_len (bytes_of m (rows_id generation)) bound.clustering place.root + 19))
       → IfOk result (λ _. WithinFrom (bytes_in columns m generation) root bound (Some number) (r0 + (length bound.partition + 23)) r3)
   equal_at m place head (Err e) r0 r2 r3 few same leads begins told = tt
-  equal_at m place head (Ok x) r0 r2 r3 few same leads begins told =
-      (
-        block_len (bytes_of m (rows_id generation)) bound.clustering place.root,
-        inr (place, leads, subst (λ (s : List ℕ). BeginsHead columns (drop place.head (bytes_of m (data_id generation))) s) same begins, refl),
-        omega arith,
-      )
+  equal_at m place head (Ok x) r0 r2 r3 few same leads begins told = (
+    block_len (bytes_of m (rows_id generation)) bound.clustering place.root,
+    inr (place, leads, subst (λ (s : List ℕ). BeginsHead columns (drop place.head (bytes_of m (data_id generation))) s) same begins, refl),
+    omega arith,
+  )
 
   pub equal_reads : {A : Type 0} (files again third : Option Files) (place : PartitionAt) (head : Head') (result : Result A DataError) (r0 r2 r3 : ℕ) → again ≡ files → third ≡ again → r2 ≤ r0 + 4
       → string_cmp head.partition bound.partition ≡ Equal
@@ -357,7 +353,7 @@ module _ (files : Option Files) (table : Opened) (footer : FooterNumbers) (bound
       subst (λ (x : TableFault). SeekTold (Err x)) (sym is)
       (told_by (Err (fault_of e)) named loaded (join files files refl told told
       (λ m p q. table_says (BeginsScan (bytes_in (columns_of table.schema) m table.generation) footer (Some bound)) e (stops_some m e p))))
-      where
+    where
       stops_some : (m : Files) (e : DataError) → Ends (Seeks (bytes_in (columns_of table.schema) m table.generation) footer.root bound) (Err e)
           → Ends (BeginsScan (bytes_in (columns_of table.schema) m table.generation) footer (Some bound)) (Err e)
       stops_some m StoreFault p = tt
@@ -371,7 +367,7 @@ module _ (files : Option Files) (table : Opened) (footer : FooterNumbers) (bound
       let there = join files files refl told told (λ m p q. in_scan m result p) in
       let found = subst (λ (o : Option BoundString). IfSome files (λ m. IfOk result (λ _. WithinScan (bytes_in (columns_of table.schema) m table.generation) footer o r0 r3))) (sym named) there in
       subst (λ (o : Option FooterNumbers). IfSome files (λ m. IfSome o (λ f. IfOk result (λ _. WithinScan (bytes_in (columns_of table.schema) m table.generation) f from r0 r3)))) (sym loaded) found
-      where
+    where
       in_scan : {A E : Type 0} (m : Files) (result : Result A E) → IfOk result (λ _. WithinSeek (bytes_in (columns_of table.schema) m table.generation) footer.root bound r0 r3)
           → IfOk result (λ _. WithinScan (bytes_in (columns_of table.schema) m table.generation) footer (Some bound) r0 r3)
       in_scan m (Ok x) p = inr p

@@ -1,5 +1,5 @@
 -- A window that is read ahead by a page.
-use Rattle.std.proofs.Common.{◌≡◌, ℕ, ◌+◌, ◌-◌, ◌<◌, ◌≤◌, ◌^◌, Bool, true, false, min, List, [], ◌++◌, length, take, drop, sym, ◌∙◌, ap, arith, refl, None, Some}
+use Rattle.std.proofs.Common.{◌≡◌, ℕ, ◌+◌, ◌-◌, ◌<◌, ◌^◌, Bool, true, false, min, List, [], ◌++◌, length, take, drop, sym, ◌∙◌, ap, arith, refl, None, Some}
 use Rattle.std.specs.Prelude.{Option, IfSome}
 use Rattle.std.proofs.lemmas.List.{append_assoc, take-append-drop, length-drop}
 use Rattle.std.proofs.Math.ListN.{drop_of_length-le}
@@ -26,7 +26,7 @@ one_page file page bytes end n k whole w c place cut read is short =
       ended = λ all. ends (w.whole) c.ended (short all) b uncut;
       long = c.long;
     }
-    where
+  where
     ends : (was : Bool) → (was ≡ true → c.rest ≡ []) → ((was ≡ true → ⊥) → k < length page) → drop end file ≡ c.rest → k ≡ n → drop k c.rest ≡ []
     ends true ended less b uncut = ap (drop k) (ended refl) ∙ drop_of_length-le [] (omega arith)
     ends false ended less b uncut = let few : k < length page = less (λ (e : false ≡ true). cc) in drop_of_length-le c.rest (omega (arith, read.0, ap length b))

@@ -10,3 +10,4 @@ pub mod Window
 pub mod Ranges
 pub mod Parts
 pub mod Scans
+pub mod Left

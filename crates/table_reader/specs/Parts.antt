@@ -5,7 +5,7 @@ use Rattle.data_file.specs.Listing.{FitsStaticType, static_part_bytes}
 use Rattle.data_file.specs.Reading.{NoStaticPart}
 use Rattle.table_reader.specs.declared.seek.BoundString.{BoundString}
 use Rattle.table_reader.specs.declared.walker.EntryStrings.{EntryStrings}
-use Rattle.table_reader.specs.Ranges.{IsBelow}
+use Rattle.table_reader.specs.Ranges.{IsAbove, IsBelow}
 
 -- the bytes begin with the static part of this value, which has so many bytes; without a static type it has none
 abbrev pub IsStaticPartBehind : Columns → List ℕ → Option (List ℕ) → ℕ → Type 0
@@ -24,3 +24,8 @@ GivesStatic from partition None given = given ≡ None
 GivesStatic from partition (Some value) None = IsBelow from partition []
 GivesStatic from partition (Some value) (Some entry) =
     (IsBelow from partition [] → ⊥) × (entry ≡ record { partition = partition; clustering = None; value = value })
+
+-- the partition has a static value, whose entry is above the bound
+abbrev pub IsStaticAbove : Option BoundString → List ℕ → Option (List ℕ) → Type 0
+IsStaticAbove to partition None = ⊥
+IsStaticAbove to partition (Some value) = IsAbove to partition []

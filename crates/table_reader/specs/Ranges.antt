@@ -1,16 +1,16 @@
 -- Ranges of entries between the strings of two bounds, and the steps of a scan over a range. This project's own.
-use Rattle.std.specs.Prelude.{◌≡◌, ◌⊎◌, ℕ, ◌<◌, ◌≤◌, Bool, List, [], ◌∷◌, ◌++◌, length, drop, map, Option, None, Some, Result, Ok, Err, IfSome, if◌then◌else◌}
+use Rattle.std.specs.Prelude.{◌≡◌, ◌⊎◌, ℕ, ◌<◌, ◌≤◌, List, [], ◌∷◌, ◌++◌, drop, map, Option, None, Some, Result, Ok, Err, IfSome, if◌then◌else◌}
 use Rattle.std.specs.List.{AllByRecursion}
 use Rattle.std.specs.declared.cmp.Ordering.{Ordering}
 use Rattle.std.specs.declared.cmp.Ordering.TheVariants.{Less, Greater}
 use Rattle.std.specs.Ordering.{ordering_then}
 use Rattle.key_types.specs.Columns.{Columns}
 use Rattle.key_types.specs.Table.{Entry, string_cmp}
-use Rattle.bti_nodes.specs.declared.damage.Damage.{Damage}
 use Rattle.data_file.specs.declared.reading.DataError.{DataError}
 use Rattle.data_file.specs.declared.reading.DataError.TheVariants.{StoreFault, Damaged, NoMemory}
 use Rattle.key_decode.specs.Strings.{IsStringOf}
-use Rattle.data_file.specs.Reading.{BeginsHead, BeginsRow}
+use Rattle.data_file.specs.Listing.{FitsStaticType, head_bytes, static_part_bytes}
+use Rattle.data_file.specs.Reading.{BeginsRow}
 use Rattle.table_files.specs.Walk.{Passes, Stops}
 use Rattle.table_reader.specs.declared.seek.BoundString.{BoundString}
 use Rattle.table_reader.specs.declared.walker.EntryStrings.{EntryStrings}
@@ -77,9 +77,15 @@ pub record StandsStill (walk walk' : Walker) : Type 0 where
   pub from : walk'.from ≡ walk.from
   pub to : walk'.to ≡ walk.to
 
--- the file ends, or what stands next is above the range: the head of a partition, or a row
+-- the bytes begin with the head of a partition that has this static value
+abbrev pub BeginsStatic : Columns → List ℕ → List ℕ → List ℕ → Type 0
+BeginsStatic columns bytes key value = IsStringOf columns.partition key × FitsStaticType columns.static_value (Some value)
+    × ((rest : List ℕ) × (bytes ≡ (head_bytes key ++ static_part_bytes columns.static_value (Some value)) ++ rest))
+
+-- the file ends, or the entry that stands next is above the range: that of a static value, or of a row
 abbrev pub IsPast : Columns → List ℕ → Option (List ℕ) → ℕ → Option BoundString → Type 0
-IsPast columns file None at to = (drop at file ≡ []) ⊎ ((key : List ℕ) × BeginsHead columns (drop at file) key × IsAbove to key [])
+IsPast columns file None at to = (drop at file ≡ [])
+    ⊎ ((key : List ℕ) × (value : List ℕ) × BeginsStatic columns (drop at file) key value × IsAbove to key [])
 IsPast columns file (Some key) at to =
     (clustering : List ℕ) × (value : List ℕ) × BeginsRow columns (drop at file) clustering value × IsAbove to key clustering
 

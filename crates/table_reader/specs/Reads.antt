@@ -1,5 +1,5 @@
 -- How a step of a get ends, and how often a get reads the store.
-use Rattle.std.specs.Prelude.{◌≡◌, ℕ, ◌+◌, ◌≤◌, ℤ, List, length, Option, None, Some, Result, Ok, Err, IfSome}
+use Rattle.std.specs.Prelude.{◌≡◌, ℕ, ◌+◌, ◌≤◌, ℤ, List, length, Option, None, Some, Result, Ok, Err}
 use Rattle.bti_nodes.specs.declared.damage.Damage.{Damage}
 use Rattle.bti_reader.specs.Searches.{Answer, floor_in}
 use Rattle.data_file.specs.declared.reading.DataError.{DataError}

@@ -1,6 +1,6 @@
 -- How many reads of the store a search for a scan's beginning makes at most. This project's own.
-use Rattle.std.specs.Prelude.{◌≡◌, ◌⊎◌, ℕ, ◌+◌, ◌*◌, ◌≤◌, ℤ, List, length, drop, Option, None, Some, Result, Ok, Err}
-use Rattle.bti_reader.specs.Searches.{Answer, ceiling_in, exact_in, floor_in}
+use Rattle.std.specs.Prelude.{◌≡◌, ◌⊎◌, ℕ, ◌+◌, ◌*◌, ◌≤◌, ℤ, List, length, drop, Option, None, Some, Ok}
+use Rattle.bti_reader.specs.Searches.{ceiling_in, exact_in}
 use Rattle.data_file.specs.Reading.{BeginsHead}
 use Rattle.index_files.specs.declared.footer.FooterNumbers.{FooterNumbers}
 use Rattle.index_files.specs.Reading.{partition_place}

@@ -4,29 +4,17 @@ use Rattle.std.specs.Prelude.{◌≡◌, ◌⊎◌, ℕ, ◌+◌, ◌<◌, ℤ, 
 use Rattle.std.specs.declared.cmp.Ordering.{Ordering}
 use Rattle.std.specs.declared.cmp.Ordering.TheVariants.{Less, Equal, Greater}
 use Rattle.outside.specs.declared.store.FileId.{FileId}
-use Rattle.outside.specs.declared.store.Part.TheVariants.{Partitions, Rows}
 use Rattle.outside.specs.Files.{Files, bytes_of}
 use Rattle.key_types.specs.declared.schema.ValueType.{ValueType}
-use Rattle.key_types.specs.Columns.{Columns}
 use Rattle.key_types.specs.Table.{string_cmp}
-use Rattle.bti_nodes.specs.declared.damage.Cause.TheVariants.{BadEntry, BadHead, BadRow}
+use Rattle.bti_nodes.specs.declared.damage.Cause.TheVariants.{BadHead, BadRow}
 use Rattle.bti_nodes.specs.declared.damage.Damage.{Damage}
-use Rattle.bti_nodes.specs.Payloads.{signed_number, unsigned_number}
-use Rattle.bti_reader.specs.Searches.{Answer, ceiling_in, exact_in, floor_in}
-use Rattle.data_file.specs.declared.reading.DataError.{DataError}
-use Rattle.data_file.specs.declared.reading.DataError.TheVariants as data_error
+use Rattle.bti_reader.specs.Searches.{ceiling_in, exact_in, floor_in}
 use Rattle.data_file.specs.Answers.{damage_at}
 use Rattle.data_file.specs.Listing.{head_bytes, static_bytes}
 use Rattle.data_file.specs.Reading.{BeginsHead, BeginsStaticPart, NoHead, NoStaticPart}
-use Rattle.index_files.specs.declared.entry.EntryNumbers.{EntryNumbers}
 use Rattle.index_files.specs.declared.footer.FooterNumbers.{FooterNumbers}
-use Rattle.index_files.specs.declared.place.PartitionPlace.{PartitionPlace}
-use Rattle.index_files.specs.declared.place.PartitionPlace.TheVariants.{Entry, Head}
-use Rattle.index_files.specs.Entries.{BeginsEntry, NoEntry}
-use Rattle.index_files.specs.Reading.{file_damage, partition_place}
-use Rattle.table_files.specs.Names.{data_id, partitions_id, rows_id}
-use Rattle.table_reader.specs.declared.fault.TableFault.{TableFault}
-use Rattle.table_reader.specs.declared.fault.TableFault.TheVariants as table_fault
+use Rattle.index_files.specs.Reading.{partition_place}
 use Rattle.table_reader.specs.declared.place.PartitionAt.{PartitionAt}
 use Rattle.table_reader.specs.Gets.{LeadsTo, TableBytes, Then, number_of, offset_of}
 use Rattle.table_reader.specs.declared.seek.BoundString.{BoundString}

@@ -19,7 +19,7 @@ mod window;
 
 pub use block::{Stop, find_row};
 pub use fault::TableFault;
-pub use laws::{law_footers, law_gets};
+pub use laws::{law_footers, law_gets, law_order, law_scans, law_whole_scan};
 pub use scan::Scan;
 pub use seek::{BoundString, Start};
 pub use table::OpenTable;

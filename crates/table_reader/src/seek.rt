@@ -78,10 +78,16 @@ fn next_partition<K: Store>(
         return Ok(None);
     };
     let place = place_of(alloc, schema, pages, store, table.generation, hit.number)?;
-    head_at(alloc, schema, store, table.generation, place.head, table.limit)?;
+    head_at(
+        alloc,
+        schema,
+        store,
+        table.generation,
+        place.head,
+        table.limit,
+    )?;
     Ok(at_head(place))
 }
-
 
 /// Where the walk begins in the partition of the bound, whose head was read: at it, or in a block.
 fn within<K: Store>(
@@ -113,7 +119,16 @@ fn within<K: Store>(
         return Ok(at_head(place));
     };
     let string = clustering.as_slice();
-    let at = block(alloc, schema, pages, store, table, place, head.rows_at, string)?;
+    let at = block(
+        alloc,
+        schema,
+        pages,
+        store,
+        table,
+        place,
+        head.rows_at,
+        string,
+    )?;
     Ok(Some(Start {
         at,
         partition: Some(head.partition),
@@ -144,20 +159,18 @@ fn by_partition<K: Store>(
     ensures fault { result ≡ Err DataError.StoreFault → Rose (K.faults store.old) (K.faults store.new) }
 {
     let place = place_of(alloc, schema, pages, store, table.generation, number)?;
-    let head = head_at(alloc, schema, store, table.generation, place.head, table.limit)?;
+    let head = head_at(
+        alloc,
+        schema,
+        store,
+        table.generation,
+        place.head,
+        table.limit,
+    )?;
     let string = bound.partition.as_slice();
     match compare_bytes(head.partition.as_slice(), string) {
         Ordering::Less => next_partition(alloc, schema, pages, store, table, string),
-        Ordering::Equal => within(
-            alloc,
-            schema,
-            pages,
-            store,
-            table,
-            place,
-            head,
-            bound,
-        ),
+        Ordering::Equal => within(alloc, schema, pages, store, table, place, head, bound),
         Ordering::Greater => Ok(at_head(place)),
     }
 }

@@ -4,7 +4,7 @@ ghost use Rattle.std.specs.Prelude.{◌≡◌, ◌↔◌, ◌≤◌, [], false, 
 ghost use Rattle.std.specs.Option.{option_copied};
 ghost use Rattle.key_types.specs.Columns.{columns_of};
 ghost use Rattle.table_reader.specs.Ranges.{order_to, within_bytes, IsAbove, IsBelow, StepIs};
-ghost use Rattle.table_reader.specs.Parts.{GivesStatic, IsStaticPartBehind, NoStaticPartBehind};
+ghost use Rattle.table_reader.specs.Parts.{GivesStatic, IsStaticAbove, IsStaticPartBehind, NoStaticPartBehind};
 ghost use Rattle.table_reader.specs.Window.{HasEnough};
 
 use crate::place::damaged;
@@ -62,8 +62,10 @@ fn within(bound: &BoundString) -> &[u8]
 fn order_to(bound: &BoundString, partition: &[u8], clustering: &[u8]) -> Ordering
     ensures { result ≡ order_to bound.now partition.now clustering.now }
 {
-    compare_bytes(partition, bound.partition.as_slice())
-        .then(compare_bytes(clustering, within(bound)))
+    compare_bytes(partition, bound.partition.as_slice()).then(compare_bytes(
+        clustering,
+        within(bound),
+    ))
 }
 
 /// Whether the strings of an entry lie below a bound.
@@ -82,6 +84,16 @@ fn is_above(to: &Option<BoundString>, partition: &[u8], clustering: &[u8]) -> bo
 {
     match to {
         Some(bound) => order_to(bound, partition, clustering) == Ordering::Greater,
+        None => false,
+    }
+}
+
+/// Whether a partition has a static value whose entry lies above a bound.
+fn is_static_above(to: &Option<BoundString>, partition: &[u8], static_part: Option<&[u8]>) -> bool
+    ensures { IsTrue result ↔ IsStaticAbove to.now partition.now (option_copied static_part.entry) }
+{
+    match static_part {
+        Some(_) => is_above(to, partition, &[]),
         None => false,
     }
 }
@@ -179,13 +191,13 @@ impl Walker {
         let Some(key) = head_in(schema, bytes) else {
             return Err(damaged(at, Cause::BadHead));
         };
-        if is_above(&self.to, key, &[]) {
-            return Ok(Met::Done);
-        }
         let head = 2 + key.len();
         let Some((static_part, length)) = static_part_behind(schema, bytes, head) else {
             return Err(damaged(at + head as u64, Cause::BadRow));
         };
+        if is_static_above(&self.to, key, static_part) {
+            return Ok(Met::Done);
+        }
         let given = static_given(alloc, &self.from, key, static_part)?;
         self.key.truncate(0);
         self.key.extend(key)?;

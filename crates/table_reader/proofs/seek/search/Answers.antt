@@ -1,4 +1,4 @@
-use Rattle.std.proofs.Common.{◌∙◌, None, Ok, Option, Some, arith, rules, subst, sym, w64}
+use Rattle.std.proofs.Common.{None, Ok, Option, Some, arith, rules, subst, w64}
 use Rattle.std.proofs.lemmas.Int.{to_z-of_z}
 use Rattle.std.proofs.lemmas.Result.{err_from_is_err_and}
 use mir.Val.{SFits}
