@@ -5,3 +5,4 @@ pub mod Strings
 pub mod Blocked
 pub mod Numbering
 pub mod Indexed
+pub mod Passing

@@ -1,10 +1,7 @@
 -- The partition index of files that stand has its footer.
-use Rattle.std.proofs.Common.{◌≡◌, ◌∙◌, ℕ, ◌+◌, ◌^◌, ◌<◌, ◌≤◌, List, [], ◌∷◌, ◌++◌, length, Option, inl, inr, arith, ap, length-append, refl, subst, sym}
-use Rattle.byteorder.specs.Endian.{big_number}
+use Rattle.std.proofs.Common.{◌≡◌, ℕ, ◌+◌, ◌^◌, ◌<◌, List, [], ◌∷◌, ◌++◌, length, inl, inr, arith, ap, length-append, refl, subst, sym}
 use Rattle.key_types.specs.Columns.{Columns}
-use Rattle.key_types.specs.declared.schema.ValueType.{ValueType}
 use Rattle.key_decode.specs.Strings.{IsStringOf}
-use Rattle.length_prefix.specs.Counted.{counted}
 use Rattle.outside.specs.Files.{bytes_of}
 use Rattle.data_file.specs.Listing.{ArePartitions, Partition, partition_bytes}
 use Rattle.index_files.specs.declared.footer.FooterNumbers.{FooterNumbers}

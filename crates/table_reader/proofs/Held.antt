@@ -1,5 +1,5 @@
 -- Bytes of a file that are held, and those that are read on.
-use Rattle.std.proofs.Common.{◌≡◌, ◌⊎◌, ◌∙◌, ℕ, ◌+◌, ◌-◌, ◌*◌, ◌%◌, ◌<◌, ◌≤◌, List, [], ◌∷◌, ◌++◌, length, take, drop, Option, None, Some, IfSome, Result, Ok, Err, inl, inr, arith, ap, append_assoc, length-append, refl, subst, sym}
+use Rattle.std.proofs.Common.{◌≡◌, ◌⊎◌, ◌∙◌, ℕ, ◌+◌, ◌-◌, ◌*◌, ◌%◌, ◌<◌, ◌≤◌, List, [], ◌++◌, length, take, drop, Option, None, Some, IfSome, Result, Err, inl, inr, arith, ap, append_assoc, length-append, subst, sym}
 use Rattle.std.proofs.lemmas.List.{append-nil, drop-append-le, drop-drop, length-drop, length-take, take-append-drop, take_all}
 use Rattle.std.proofs.Math.Seq.{drop-append_seam}
 use Rattle.outside.specs.declared.store.FileId.{FileId}

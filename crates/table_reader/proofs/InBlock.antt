@@ -1,12 +1,11 @@
 -- What the search in a block finds of a partition's rows, and which block the row index names.
-use Rattle.std.proofs.Common.{◌≡◌, ◌≢◌, ◌⊎◌, ◌∙◌, ℕ, zero, suc, ◌+◌, ◌<◌, ◌≤◌, List, [], ◌∷◌, ◌++◌, length, map, take, Bool, true, false, cond, Option, None, Some, Result, Ok, Err, inl, inr, arith, ap, append_assoc, length-append, refl, subst, sym}
+use Rattle.std.proofs.Common.{◌≡◌, ◌⊎◌, ◌∙◌, ℕ, zero, suc, ◌+◌, ◌<◌, ◌≤◌, List, [], ◌∷◌, ◌++◌, length, take, Bool, true, false, Option, None, Some, Result, Ok, Err, inl, inr, arith, ap, append_assoc, length-append, refl, subst, sym}
 use Rattle.std.specs.Prelude.{if◌then◌else◌}
-use Rattle.std.proofs.lemmas.Bool.{lt-leb, le-leb, leb-true}
+use Rattle.std.proofs.lemmas.Bool.{lt-leb, le-leb}
 use Rattle.std.proofs.lemmas.Cmp.{nat_list_cmp_total}
 use Rattle.std.specs.Ordering.{nat_cmp}
 use Rattle.std.specs.declared.cmp.Ordering.{Ordering}
 use Rattle.std.specs.declared.cmp.Ordering.TheVariants.{Less, Equal, Greater}
-use Rattle.byte_order.specs.Strings.{IsSeparatorLength}
 use Rattle.byte_order.proofs.Shared.{itself, rest_decides}
 use Rattle.bti_nodes.specs.declared.damage.Damage.{Damage}
 use Rattle.bti_nodes.specs.Payloads.{unsigned_number}
@@ -15,11 +14,10 @@ use Rattle.bti_reader.specs.Meaning.{find_last, is_below, or_path, path_below}
 use Rattle.key_types.specs.Columns.{Columns}
 use Rattle.key_types.specs.Table.{string_cmp}
 use Rattle.data_file.specs.Listing.{AreRows, Row, row_bytes, rows_bytes}
-use Rattle.data_file.specs.Reading.{BeginsEnd}
 use Rattle.data_file.proofs.Unique.{row_front}
 use Rattle.row_index.specs.Entries.{Block}
 use Rattle.row_index.specs.Writing.{block_of}
-use Rattle.table_files.specs.Blocks.{block_start, blocks_behind, ends_block}
+use Rattle.table_files.specs.Blocks.{blocks_behind, ends_block}
 use Rattle.table_files.specs.IndexMeaning.{AreBlockPaths, IsBlockPath}
 use Rattle.table_files.specs.Standing.{StringsAscend}
 use Rattle.table_files.proofs.Blocked.{clusterings}

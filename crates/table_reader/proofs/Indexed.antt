@@ -1,7 +1,6 @@
 -- What a get finds in the index files of partitions.
-use Rattle.std.proofs.Common.{◌≡◌, ◌≢◌, ◌⊎◌, ◌∙◌, ℕ, zero, suc, ◌+◌, ◌-◌, ◌^◌, ◌<◌, ◌≤◌, List, [], ◌∷◌, ◌++◌, length, take, drop, Bool, true, false, cond, Option, None, Some, Result, Ok, Err, inl, inr, arith, ap, append_assoc, length-append, refl, subst, sym}
-use Rattle.std.specs.Prelude.{ℤ, pos, negsuc, find, nat_eq, ◌==◌, if◌then◌else◌}
-use Rattle.std.specs.List.{starts_with}
+use Rattle.std.proofs.Common.{◌≡◌, ◌≢◌, ◌∙◌, ℕ, suc, ◌+◌, ◌^◌, ◌<◌, ◌≤◌, List, [], ◌∷◌, ◌++◌, length, take, drop, Bool, true, false, cond, Option, None, Some, Result, Ok, Err, arith, ap, append_assoc, length-append, refl, subst, sym}
+use Rattle.std.specs.Prelude.{ℤ, find, ◌==◌, if◌then◌else◌}
 use Rattle.std.proofs.lemmas.Bool.{ne_eqb}
 use Rattle.std.proofs.lemmas.List.{append-nil, drop-drop, take-append-drop}
 use Rattle.std.proofs.Math.Seq.{drop-append_seam}
@@ -23,15 +22,15 @@ use Rattle.length_prefix.proofs.Counts.{counted-same}
 use Rattle.data_file.specs.Listing.{Partition, data_bytes, partition_bytes}
 use Rattle.index_files.specs.declared.entry.EntryNumbers.{EntryNumbers}
 use Rattle.index_files.specs.declared.footer.FooterNumbers.{FooterNumbers}
-use Rattle.index_files.specs.Entries.{BeginsEntry, numbers_in}
+use Rattle.index_files.specs.Entries.{numbers_in}
 use Rattle.index_files.specs.Footers.{IsFooter, footer_numbers}
 use Rattle.index_files.specs.Reading.{partition_place}
 use Rattle.partition_index.specs.Entries.{Numbered, first_string, last_string, strings_of}
 use Rattle.partition_index.specs.File.{behind_trie, footer, in_eight}
 use Rattle.row_index.specs.Entries.{Block, BlockList}
-use Rattle.row_index.specs.File.{entry_bytes, row_entry}
+use Rattle.row_index.specs.File.{entry_bytes}
 use Rattle.table_files.specs.Blocks.{blocks_of}
-use Rattle.table_files.specs.IndexMeaning.{AllLead, AreIndexPaths, HasEntry, IndexFilesStand, IsIndexFile, IsIndexPath, LeadsToEntry, MeansBlocks, MeansIndex}
+use Rattle.table_files.specs.IndexMeaning.{AllLead, AreIndexPaths, HasEntry, IsIndexFile, IsIndexPath, LeadsToEntry, MeansBlocks, MeansIndex}
 use Rattle.table_files.specs.Indexes.{placed, placed_at, placed_from}
 use Rattle.table_reader.specs.declared.place.PartitionAt.{PartitionAt}
 use Rattle.table_reader.specs.Gets.{LeadsTo, TableBytes, number_in, number_of}

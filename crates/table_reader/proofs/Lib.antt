@@ -8,3 +8,11 @@ pub mod InBlock
 pub mod Indexed
 pub mod Whole
 pub mod Footers
+pub mod Seeks
+pub mod Windows
+pub mod ScanSteps
+pub mod Giving
+pub mod Scanning
+pub mod Orders
+mod Leaving
+mod Beginning

@@ -1,21 +1,19 @@
 -- What the steps of a get tell of the files.
-use Rattle.std.proofs.Common.{◌≡◌, ◌≢◌, ◌⊎◌, ◌∙◌, ℕ, ◌+◌, ◌≤◌, ◌<◌, List, [], ◌∷◌, ◌++◌, length, take, drop, Bool, true, false, IsTrue, Option, None, Some, IfOk, IfSome, Result, Ok, Err, inl, inr, arith, ap, append_assoc, refl, subst, sym, length-append}
-use Rattle.std.specs.Prelude.{ℤ}
+use Rattle.std.proofs.Common.{◌≡◌, ◌≢◌, ◌⊎◌, ◌∙◌, ℕ, ◌+◌, ◌≤◌, ◌<◌, List, ◌++◌, length, take, drop, Option, None, Some, IfSome, Ok, Err, inl, inr, arith, ap, append_assoc, refl, subst, sym}
 use Rattle.std.proofs.lemmas.Bool.{cases_lt}
 use Rattle.std.proofs.lemmas.List.{length-take, take-append-drop, take_all}
 use Rattle.outside.specs.declared.store.FileId.{FileId}
 use Rattle.outside.specs.Files.{Files, bytes_of}
 use Rattle.key_types.specs.Columns.{Columns}
-use Rattle.bti_nodes.specs.declared.damage.Cause.TheVariants.{BadEntry, BadHead}
-use Rattle.bti_nodes.specs.declared.damage.Damage.{Damage}
+use Rattle.bti_nodes.specs.declared.damage.Cause.TheVariants.{BadHead}
 use Rattle.data_file.specs.declared.reading.DataError.{DataError}
 use Rattle.data_file.specs.declared.reading.DataError.TheVariants.{StoreFault, Damaged, NoMemory}
-use Rattle.data_file.specs.Answers.{IsStop, damage_at}
+use Rattle.data_file.specs.Answers.{damage_at}
 use Rattle.data_file.specs.Reading.{BeginsHead, NoHead}
 use Rattle.data_file.proofs.Found.{no_head_on}
 use Rattle.index_files.specs.declared.place.PartitionPlace.{PartitionPlace}
 use Rattle.index_files.specs.declared.place.PartitionPlace.TheVariants.{Entry}
-use Rattle.index_files.specs.Reading.{ReadsEntry, file_damage}
+use Rattle.index_files.specs.Reading.{ReadsEntry}
 use Rattle.length_prefix.specs.Counted.{counted}
 use Rattle.table_files.specs.Names.{data_id, rows_id}
 use Rattle.table_reader.specs.Gets.{FindsHead, LeadsTo, bytes_in}

@@ -15,7 +15,7 @@ use Rattle.table_reader.specs.Gets.{FindsHead, FindsInside, FindsThere, Found, G
 use Rattle.table_reader.specs.Reads.{Ends, IsBounded, IsWithinThere, clustering_length}
 
 -- a step that ended well, and what followed it
-pub step_ok : {A : Type 0} (Step : Result A Damage → Type 0) (Rest : A → Found → Type 0) (x : A) (r : Result (Option (List ℕ)) DataError)
+pub step_ok : {A B : Type 0} (Step : Result A Damage → Type 0) (Rest : A → Result B Damage → Type 0) (x : A) (r : Result B DataError)
     → Step (Ok x) → Ends (Rest x) r → Ends (Then Step Rest) r
 step_ok Step Rest x (Ok value) step rest = inr (x, step, rest)
 step_ok Step Rest x (Err (Damaged damage)) step rest = inr (x, step, rest)
@@ -23,7 +23,7 @@ step_ok Step Rest x (Err StoreFault) step rest = tt
 step_ok Step Rest x (Err NoMemory) step rest = tt
 
 -- one that ended in damage, or not at all
-pub step_err : {A : Type 0} (Step : Result A Damage → Type 0) (Rest : A → Found → Type 0) (e : DataError) → Ends Step (Err e)
+pub step_err : {A B : Type 0} (Step : Result A Damage → Type 0) (Rest : A → Result B Damage → Type 0) (e : DataError) → Ends Step (Err e)
     → Ends (Then Step Rest) (Err e)
 step_err Step Rest (Damaged damage) step = inl (damage, step, refl)
 step_err Step Rest StoreFault step = tt

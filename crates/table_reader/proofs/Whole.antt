@@ -1,5 +1,5 @@
 -- What a get finds in files that stand for a map.
-use Rattle.std.proofs.Common.{◌≡◌, ◌≢◌, ◌⊎◌, ◌∙◌, ℕ, ◌+◌, ◌<◌, ◌≤◌, List, [], ◌∷◌, ◌++◌, length, map, drop, Option, None, Some, true, IfSome, Result, Ok, Err, inl, inr, arith, ap, append_assoc, length-append, refl, subst, sym}
+use Rattle.std.proofs.Common.{◌≡◌, ◌≢◌, ◌∙◌, ℕ, ◌+◌, List, [], ◌∷◌, ◌++◌, length, drop, Option, None, Some, true, IfSome, Result, Ok, Err, inl, inr, arith, ap, append_assoc, length-append, refl, subst, sym}
 use Rattle.std.specs.Prelude.{ℤ}
 use Rattle.std.proofs.lemmas.List.{append-nil, drop-drop}
 use Rattle.std.proofs.Math.Seq.{drop-append_seam}
@@ -8,36 +8,32 @@ use Rattle.bti_nodes.specs.declared.damage.Damage.{Damage}
 use Rattle.bti_nodes.specs.Payloads.{signed_number, unsigned_number}
 use Rattle.bti_nodes.specs.Trie.{Path, Paths, paths}
 use Rattle.bti_reader.specs.Meaning.{find_last, path_below}
-use Rattle.bti_reader.specs.Searches.{floor_in}
 use Rattle.bti_reader.proofs.Finds.{searches_find}
 use Rattle.key_types.specs.Columns.{Columns}
-use Rattle.key_types.specs.Table.{Table, string_cmp}
+use Rattle.key_types.specs.Table.{string_cmp}
 use Rattle.key_types.specs.declared.schema.ValueType.{ValueType}
 use Rattle.key_decode.specs.Strings.{IsStringOf}
-use Rattle.outside.specs.Files.{Files, bytes_of}
+use Rattle.outside.specs.Files.{bytes_of}
 use Rattle.length_prefix.specs.Counted.{counted}
 use Rattle.length_prefix.proofs.Counts.{counted-same}
-use Rattle.data_file.specs.Listing.{AreRows, ArePartitions, FitsStaticType, Partition, Row, data_bytes, end_bytes, head_bytes, partition_bytes, row_bytes, rows_bytes, static_bytes, static_part_bytes}
+use Rattle.data_file.specs.Listing.{AreRows, ArePartitions, FitsStaticType, Partition, Row, data_bytes, head_bytes, partition_bytes, row_bytes, rows_bytes, static_bytes, static_part_bytes}
 use Rattle.data_file.specs.Reading.{BeginsStaticPart}
 use Rattle.data_file.proofs.Unique.{static_part_front}
 use Rattle.index_files.specs.declared.footer.FooterNumbers.{FooterNumbers}
-use Rattle.index_files.specs.Reading.{partition_place}
-use Rattle.row_index.specs.Entries.{Block}
-use Rattle.table_files.specs.Blocks.{blocks_among, blocks_behind, blocks_of, rows_at}
+use Rattle.table_files.specs.Blocks.{blocks_among, blocks_of, rows_at}
 use Rattle.table_files.specs.IndexMeaning.{AreBlockPaths, LeadsToEntry, MeansBlocks}
 use Rattle.table_files.specs.Indexes.{placed_at}
-use Rattle.table_files.specs.Names.{data_id, partitions_id, rows_id}
-use Rattle.table_files.specs.Standing.{Holds, RowsAscend, StandFor, StringsAscend, entries_in}
+use Rattle.table_files.specs.Names.{partitions_id, rows_id}
+use Rattle.table_files.specs.Standing.{RowsAscend, StringsAscend, entries_in}
 use Rattle.table_files.proofs.Blocked.{clusterings}
 use Rattle.table_reader.specs.declared.block_at.BlockAt.{BlockAt}
 use Rattle.table_reader.specs.declared.place.PartitionAt.{PartitionAt}
-use Rattle.table_reader.specs.Gets.{FindsBlock, FindsHead, FindsInBlock, FindsInside, FindsStatic, FindsThere, FirstBlock, Found, Gets, IfThere, LeadsTo, TableBytes, Then, bytes_in, number_in, number_of, offset_in, offset_of}
+use Rattle.table_reader.specs.Gets.{FindsBlock, FindsHead, FindsInBlock, FindsInside, FindsStatic, FindsThere, FirstBlock, Found, Gets, IfThere, TableBytes, Then, bytes_in, number_in, number_of, offset_in, offset_of}
 use Rattle.table_reader.specs.Laws.{GetsAreOfMap, string_of_key}
-use Rattle.table_reader.specs.Opened.{HasFooter}
 use Rattle.table_reader.specs.Rows.{FindsRow}
 use Rattle.table_reader.proofs.InBlock.{AreBelow, AreEnough, FirstsAbove, IsLocated, below_passed, block_finds, located}
-use Rattle.table_reader.proofs.Indexed.{Chosen, FindsAmong, HasRoot, leads_ok, leads_sound, number_found}
-use Rattle.table_reader.proofs.Lookup.{LacksPartition, row_of, row_passed, less_apart, table_none, table_row, table_static}
+use Rattle.table_reader.proofs.Indexed.{FindsAmong, HasRoot, leads_ok, leads_sound, number_found}
+use Rattle.table_reader.proofs.Lookup.{LacksPartition, row_of, table_none, table_row, table_static}
 
 -- ---- a partition in its file
 

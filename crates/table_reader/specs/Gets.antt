@@ -25,7 +25,7 @@ use Rattle.table_reader.specs.declared.place.PartitionAt.{PartitionAt}
 use Rattle.table_reader.specs.declared.block_at.BlockAt.{BlockAt}
 use Rattle.table_reader.specs.Rows.{FindsRow}
 
--- what a get reads: the columns of a table, and the bytes of Data.db, Partitions.db and Rows.db
+-- what a get or a scan reads: the columns of a table, and the bytes of Data.db, Partitions.db and Rows.db
 pub record TableBytes : Type 0 where
   pub columns : Columns
   pub entries : List ℕ
@@ -48,7 +48,7 @@ Found = Result (Option (List ℕ)) Damage
 -- ---- one step behind the other
 
 -- a step ends in damage, which is what is found; or well, and the rest finds what is found
-abbrev pub Then : {A : Type 0} → (Result A Damage → Type 0) → (A → Found → Type 0) → Found → Type 0
+abbrev pub Then : {A B : Type 0} → (Result A Damage → Type 0) → (A → Result B Damage → Type 0) → Result B Damage → Type 0
 Then {A} Step Rest found =
     ((damage : Damage) × Step (Err damage) × (found ≡ Err damage)) ⊎ ((x : A) × Step (Ok x) × Rest x found)
 

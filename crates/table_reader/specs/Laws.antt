@@ -1,8 +1,8 @@
--- What a get finds in whole files.
+-- What a get finds in whole files, and the order of entries to bounds. This project's own.
 use Rattle.std.specs.Prelude.{◌≡◌, ℕ, List, ◌++◌, Option, None, Some, Ok, IfSome}
 use Rattle.std.specs.FinMap as finite
 use Rattle.key_types.specs.Columns.{Columns}
-use Rattle.key_types.specs.Table.{Table}
+use Rattle.key_types.specs.Table.{Table, string_cmp}
 use Rattle.key_decode.specs.Strings.{IsStringOf}
 use Rattle.outside.specs.Files.{Files, bytes_of}
 use Rattle.index_files.specs.declared.footer.FooterNumbers.{FooterNumbers}
@@ -10,6 +10,9 @@ use Rattle.table_files.specs.Names.{partitions_id}
 use Rattle.table_files.specs.Standing.{StandFor}
 use Rattle.table_reader.specs.Gets.{Found, Gets, bytes_in}
 use Rattle.table_reader.specs.Opened.{HasFooter}
+use Rattle.table_reader.specs.declared.seek.BoundString.{BoundString}
+use Rattle.table_reader.specs.declared.walker.EntryStrings.{EntryStrings}
+use Rattle.table_reader.specs.Ranges.{IsEntryOf, entry_of, order_to, within_bytes}
 
 -- the string of a key: that of its partition, and behind it that of its row; a static value's has the partition's alone
 abbrev pub string_of_key : List ℕ → Option (List ℕ) → List ℕ
@@ -31,3 +34,13 @@ abbrev pub FootersStand : Type 0
 FootersStand =
     (files : Files) (generation : ℕ) (columns : Columns) (table : Table) → StandFor files generation columns table
     → (footer : FooterNumbers) × HasFooter columns (bytes_of files (partitions_id generation)) footer
+
+-- the string of a bound: that of its partition before that within it
+abbrev pub bound_bytes : BoundString → List ℕ
+bound_bytes bound = bound.partition ++ within_bytes bound.clustering
+
+-- an entry's order to a bound, by their parts, is the order of the string of its key to the bound's string
+abbrev pub OrderIsOfStrings : Type 0
+OrderIsOfStrings =
+    (columns : Columns) (bound : BoundString) (entry : EntryStrings) → IsStringOf columns.partition bound.partition → IsEntryOf columns entry
+    → order_to bound entry.partition (within_bytes entry.clustering) ≡ string_cmp (entry_of entry).0 (bound_bytes bound)

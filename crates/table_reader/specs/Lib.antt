@@ -4,3 +4,10 @@ pub mod Rows
 pub mod Gets
 pub mod Reads
 pub mod Laws
+pub mod Seeking
+pub mod SeekReads
+pub mod Window
+pub mod Ranges
+pub mod Parts
+pub mod Scans
+pub mod Left

@@ -1,5 +1,5 @@
 -- How a step of a get ends, and how often a get reads the store.
-use Rattle.std.specs.Prelude.{◌≡◌, ℕ, ◌+◌, ◌≤◌, ℤ, List, length, Option, None, Some, Result, Ok, Err, IfSome}
+use Rattle.std.specs.Prelude.{◌≡◌, ℕ, ◌+◌, ◌≤◌, ℤ, List, length, Option, None, Some, Result, Ok, Err}
 use Rattle.bti_nodes.specs.declared.damage.Damage.{Damage}
 use Rattle.bti_reader.specs.Searches.{Answer, floor_in}
 use Rattle.data_file.specs.declared.reading.DataError.{DataError}
@@ -18,13 +18,13 @@ Ends Finds (Err (data_error.Damaged damage)) = Finds (Err damage)
 Ends Finds (Err data_error.StoreFault) = Unit {0}
 Ends Finds (Err data_error.NoMemory) = Unit {0}
 
--- the same of a get
-abbrev pub EndsGet : {A : Type 0} → (Result A Damage → Type 0) → Result A TableFault → Type 0
-EndsGet Finds (Ok x) = Finds (Ok x)
-EndsGet Finds (Err (table_fault.Damaged damage)) = Finds (Err damage)
-EndsGet Finds (Err table_fault.Unfinished) = ⊥
-EndsGet Finds (Err table_fault.StoreFault) = Unit {0}
-EndsGet Finds (Err table_fault.NoMemory) = Unit {0}
+-- the same of a call of an open table
+abbrev pub EndsCall : {A : Type 0} → (Result A Damage → Type 0) → Result A TableFault → Type 0
+EndsCall Finds (Ok x) = Finds (Ok x)
+EndsCall Finds (Err (table_fault.Damaged damage)) = Finds (Err damage)
+EndsCall Finds (Err table_fault.Unfinished) = ⊥
+EndsCall Finds (Err table_fault.StoreFault) = Unit {0}
+EndsCall Finds (Err table_fault.NoMemory) = Unit {0}
 
 -- how many bytes the path has that a search finds, 0 for none
 abbrev pub path_length : Answer → ℕ

@@ -9,12 +9,21 @@ mod get;
 mod laws;
 mod place;
 mod row_value;
+mod next;
+mod partition;
+mod scan;
+mod seek;
 mod table;
+mod walker;
+mod window;
 
 pub use block::{Stop, find_row};
 pub use fault::TableFault;
-pub use laws::{law_footers, law_gets};
+pub use laws::{law_footers, law_gets, law_order, law_scans, law_whole_scan};
+pub use scan::Scan;
+pub use seek::{BoundString, Start};
 pub use table::OpenTable;
+pub use walker::EntryStrings;
 
 #[cfg(test)]
 mod tests;

@@ -9,7 +9,7 @@ ghost use Rattle.key_types.specs.Columns.{columns_of};
 ghost use Rattle.table_files.specs.Names.{partitions_id, schema_id};
 ghost use Rattle.table_reader.specs.Gets.{Gets, bytes_in};
 ghost use Rattle.table_reader.specs.Opened.{LoadsFooter, OpensTable, StandsIn};
-ghost use Rattle.table_reader.specs.Reads.{EndsGet, IsBounded};
+ghost use Rattle.table_reader.specs.Reads.{EndsCall, IsBounded};
 
 use crate::fault::TableFault;
 use crate::get::value_of;
@@ -25,11 +25,11 @@ use table_files::{partitions_id, read_schema};
 /// are loaded, and the pages that it holds.
 #[derive(Drop)]
 pub struct OpenTable {
-    alloc: Global,
-    generation: u32,
-    schema: Schema,
-    footer: Option<FooterNumbers>,
-    pages: PageCache,
+    pub(crate) alloc: Global,
+    pub(crate) generation: u32,
+    pub(crate) schema: Schema,
+    pub(crate) footer: Option<FooterNumbers>,
+    pub(crate) pages: PageCache,
 }
 
 impl Model for OpenTable {
@@ -117,7 +117,7 @@ impl OpenTable {
     ) -> Result<Option<ValueBytes>, TableFault>
         requires stands { StandsIn (K.files store.old) self.old }
         requires loaded { IsSome self.old.footer }
-        ensures value { IfSome (K.files store.old) (λ m. IfSome self.old.footer (λ footer. EndsGet
+        ensures value { IfSome (K.files store.old) (λ m. IfSome self.old.footer (λ footer. EndsCall
             (Gets (bytes_in (columns_of self.old.schema) m self.old.generation) footer partition.now
             (option_copied clustering.entry)) result)) }
         ensures stands { StandsIn (K.files store.new) self.new }

@@ -1,4 +1,4 @@
-use Rattle.std.proofs.Common.{◌≡◌, arith, refl}
+use Rattle.std.proofs.Common.{refl}
 use Rattle.key_types.specs.Columns.{columns_of}
 use Rattle.table_reader.proofs.Places.{head_is, head_none, head_other}
 use Rattle.table_reader.proofs.place.behind_head.Goals as goal

@@ -1,4 +1,4 @@
-use Rattle.std.proofs.Common.{◌≡◌, ◌∙◌, refl, rules, sym}
+use Rattle.std.proofs.Common.{◌≡◌, refl, rules}
 use Rattle.index_files.specs.declared.place.PartitionPlace.TheVariants.{Entry}
 use Rattle.index_files.specs.Reading.{partition_place}
 use Rattle.std.proofs.lemmas.Result.{err_from_is_err_and}

@@ -1,4 +1,4 @@
-use Rattle.std.proofs.Common.{◌≡◌, ◌⊎◌, ◌∙◌, ℕ, ◌+◌, ◌-◌, ◌*◌, ◌%◌, ◌<◌, ◌≤◌, List, ◌++◌, drop, Option, ap, arith, false, inl, inr, length, length-append, refl, subst, sym}
+use Rattle.std.proofs.Common.{◌≡◌, ◌⊎◌, ◌∙◌, ℕ, ◌+◌, ◌-◌, ◌<◌, ◌≤◌, ap, arith, false, inl, inr, length, length-append, refl, subst, sym}
 use Rattle.std.proofs.lemmas.List.{length-drop}
 use Rattle.key_types.specs.Columns.{columns_of}
 use Rattle.page_cache.specs.Pages.{Honest}

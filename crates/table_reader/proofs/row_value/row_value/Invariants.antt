@@ -3,7 +3,6 @@ use Rattle.key_types.specs.Columns.{columns_of}
 use Rattle.bti_nodes.specs.declared.damage.Damage.{Damage}
 use Rattle.page_cache.specs.Pages.{Honest}
 use Rattle.data_file.specs.Held.{IsFront, IsRest}
-use Rattle.table_files.specs.Names.{data_id}
 use Rattle.table_reader.specs.Rows.{FindsRow}
 use Rattle.table_reader.proofs.row_value.row_value.Given as goal
 

@@ -1,9 +1,6 @@
-use Rattle.std.proofs.Common.{◌≡◌, ℕ, List, Option, Some, IfSome, Result, Ok, OnOk, subst, sym}
+use Rattle.std.proofs.Common.{IfSome, OnOk, subst}
 use Rattle.std.specs.Option.{option_copied}
-use Rattle.outside.specs.Files.{Files}
-use Rattle.index_files.specs.declared.footer.FooterNumbers.{FooterNumbers}
 use Rattle.key_types.specs.Columns.{columns_of}
-use Rattle.table_reader.specs.declared.fault.TableFault.{TableFault}
 use Rattle.table_reader.specs.Gets.{bytes_in}
 use Rattle.table_reader.specs.Opened.{Opened}
 use Rattle.table_reader.specs.Reads.{IsBounded}

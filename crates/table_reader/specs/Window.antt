@@ -1,0 +1,24 @@
+-- Bytes of a file that were read and are not yet used. This project's own.
+use Rattle.std.specs.Prelude.{◌≡◌, ◌⊎◌, ℕ, ◌≤◌, Bool, true, List, [], ◌++◌, length, drop}
+
+-- the unused bytes, the place of the first of them, the length of the file, and whether the file ends behind the bytes
+pub record Unread : Type 0 where
+  pub bytes : List ℕ
+  pub at : ℕ
+  pub limit : ℕ
+  pub whole : Bool
+
+-- the unused bytes are the file's from their place on, and all of them where the file ends behind them
+pub record Continues (file : List ℕ) (window : Unread) : Type 0 where
+  pub rest : List ℕ
+  pub is : drop window.at file ≡ window.bytes ++ rest
+  pub ended : window.whole ≡ true → rest ≡ []
+  pub long : length file ≡ window.limit
+
+-- no row is longer than this, and no head with its static part
+abbrev pub enough : ℕ
+enough = 66564
+
+-- the longest row is among the unused bytes, or they are all
+abbrev pub HasEnough : Unread → Type 0
+HasEnough window = (window.whole ≡ true) ⊎ (enough ≤ length window.bytes)
