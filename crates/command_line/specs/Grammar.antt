@@ -3,13 +3,13 @@ use Rattle.std.specs.Prelude.{true, [], ◌∷◌, codes}
 use Rattle.clap.specs.Simple.{App, Shape, new_shape}
 use Rattle.command_line.specs.Forms.{flag, with, with_commands, with_options, with_required}
 
--- `list --schema S`
+-- `list --schema S`, with `--cells n` there or not
 abbrev pub list : Shape
-list = with_required (new_shape (codes "list")) (codes "schema" ∷ [])
+list = with_options (with_required (new_shape (codes "list")) (codes "schema" ∷ [])) (codes "cells" ∷ [])
 
--- `load --schema S`
+-- `load --schema S`, with `--bounds B`, `--cells n` and `--readers n` each there or not
 abbrev pub load : Shape
-load = with_required (new_shape (codes "load")) (codes "schema" ∷ [])
+load = with_options (with_required (new_shape (codes "load")) (codes "schema" ∷ [])) (codes "bounds" ∷ codes "cells" ∷ codes "readers" ∷ [])
 
 -- `scan`
 abbrev pub scan : Shape

@@ -10,14 +10,14 @@ abbrev pub begins_plainly : Text → Bool
 begins_plainly [] = true
 begins_plainly (b ∷ bs) = if b == 45 then false else true
 
--- `list --schema v` is `list` of the schema v, where v neither begins with a hyphen nor is a refused word
+-- `list --schema v` is `list` of the schema v, with 262,144 cells, where v neither begins with a hyphen nor is a refused word
 abbrev pub ListIsRead : Type 0
 ListIsRead = (v : Text) → begins_plainly v ≡ true → is_refused v ≡ false
-    → command_of (codes "list" ∷ codes "--schema" ∷ v ∷ []) ≡ Ok (list v)
+    → command_of (codes "list" ∷ codes "--schema" ∷ v ∷ []) ≡ Ok (list v 262144)
 
 -- `list --schema=v` is `list` of the schema v, whatever v is
 abbrev pub ListIsReadAttached : Type 0
-ListIsReadAttached = (v : Text) → command_of (codes "list" ∷ (codes "--schema=" ++ v) ∷ []) ≡ Ok (list v)
+ListIsReadAttached = (v : Text) → command_of (codes "list" ∷ (codes "--schema=" ++ v) ∷ []) ≡ Ok (list v 262144)
 
 -- `key --schema=v --encode=w` shows the string of the list w, whatever v and w are
 abbrev pub KeyEncodes : Type 0

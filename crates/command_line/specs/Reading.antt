@@ -8,6 +8,7 @@ use Rattle.clap.specs.Simple.{subcommand_of}
 use Rattle.clap.specs.Kinds.{Kinds}
 use Rattle.clap.specs.Faults.{fault_of}
 use Rattle.command_line.specs.Grammar.{tool}
+use Rattle.command_line.specs.Numbers.{cells_in, readers_in}
 use Rattle.command_line.specs.Said.{Said, Way, list, load, scan, key, encode, decode}
 use Rattle.command_line.specs.declared.command.WordsError.{WordsError}
 use Rattle.command_line.specs.declared.command.WordsError.TheVariants.{Usage}
@@ -46,11 +47,19 @@ reads (Err e) next = Err Usage
 
 -- `list` with its values
 abbrev pub list_in : List Row → Result Said WordsError
-list_in rows = reads (needed_text (first_of (codes "schema") rows)) (λ schema. Ok (list schema))
+list_in rows = reads (needed_text (first_of (codes "schema") rows)) (λ schema. reads (cells_in (first_of (codes "cells") rows)) (λ cells. Ok (list schema cells)))
+
+-- the text of an argument, or the empty one
+abbrev pub text_or_none : Option Text → Text
+text_or_none None = []
+text_or_none (Some text) = text
 
 -- `load` with its values
 abbrev pub load_in : List Row → Result Said WordsError
-load_in rows = reads (needed_text (first_of (codes "schema") rows)) (λ schema. Ok (load schema))
+load_in rows = reads (needed_text (first_of (codes "schema") rows)) (λ schema.
+    reads (cells_in (first_of (codes "cells") rows)) (λ cells.
+    reads (readers_in (first_of (codes "readers") rows)) (λ readers.
+    Ok (load schema (text_or_none (first_of (codes "bounds") rows)) cells readers))))
 
 -- a flag is there: `clap` says so by the text true
 abbrev pub is_set : Option Text → Bool

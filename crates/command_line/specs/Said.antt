@@ -1,5 +1,5 @@
 -- What the words say: a command and its values, each a text.
-use Rattle.std.specs.Prelude.{◌≡◌, Bool, Result, Ok, Err}
+use Rattle.std.specs.Prelude.{◌≡◌, ◌≤◌, ℕ, Bool, Option, Result, Ok, Err, option_map}
 use Rattle.std.specs.String.{string_bytes}
 use Rattle.clap.specs.Walk.{Text}
 use Rattle.command_line.specs.declared.command.Command.{Command}
@@ -16,8 +16,8 @@ pub data Way : Type 0 where
 
 -- a command with its values
 pub data Said : Type 0 where
-  list : (schema : Text) → Said
-  load : (schema : Text) → Said
+  list : (schema : Text) → (cells : ℕ) → Said
+  load : (schema bounds : Text) → (cells readers : ℕ) → Said
   scan : Said
   key : (schema : Text) → (clustering : Bool) → (way : Way) → Said
 
@@ -28,10 +28,21 @@ way_of (Decode text) = decode (string_bytes text)
 
 -- what a command of the code says
 abbrev pub said_of : Command → Said
-said_of (command.List arguments) = list (string_bytes arguments.schema)
-said_of (command.Load arguments) = load (string_bytes arguments.schema)
+said_of (command.List arguments) = list (string_bytes arguments.schema) arguments.cells
+said_of (command.Load arguments) = load (string_bytes arguments.schema) (string_bytes arguments.bounds) arguments.cells arguments.readers
 said_of command.Scan = scan
 said_of (command.Key arguments) = key (string_bytes arguments.schema) arguments.clustering (way_of arguments.way)
+
+-- a shard may have so many cells
+abbrev pub AreCells : ℕ → Type 0
+AreCells cells = (1024 ≤ cells) × (cells ≤ 4194304)
+
+-- the numbers of a command are within their limits
+abbrev pub IsLimited : Command → Type 0
+IsLimited (command.List arguments) = AreCells arguments.cells
+IsLimited (command.Load arguments) = AreCells arguments.cells × (1 ≤ arguments.readers) × (arguments.readers ≤ 8)
+IsLimited command.Scan = Unit {0}
+IsLimited (command.Key arguments) = Unit {0}
 
 -- the answer is the expected one as `view` sees it, or memory ran out
 abbrev pub AnswersCommand : {X Y : Type 0} → (X → Y) → Result X WordsError → Result Y WordsError → Type 0

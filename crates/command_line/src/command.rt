@@ -7,6 +7,8 @@ use thiserror::Error;
 pub struct ListArguments {
     /// The schema, as its text.
     pub schema: String,
+    /// How many cells the shard has, from 1,024 to 4,194,304.
+    pub cells: u32,
 }
 
 /// The values of `load`.
@@ -14,6 +16,12 @@ pub struct ListArguments {
 pub struct LoadArguments {
     /// The schema, as its text.
     pub schema: String,
+    /// The bounds between the shards, as their text; the empty one has none.
+    pub bounds: String,
+    /// How many cells each shard has, from 1,024 to 4,194,304.
+    pub cells: u32,
+    /// How many readers there are, from 1 to 8.
+    pub readers: u32,
 }
 
 /// What `key` is to do.
@@ -39,9 +47,9 @@ pub struct KeyArguments {
 /// A command of the tool, with its values.
 #[derive(Debug, Drop)]
 pub enum Command {
-    /// `list --schema S`
+    /// `list --schema S [--cells n]`
     List(ListArguments),
-    /// `load --schema S`
+    /// `load --schema S [--bounds B] [--cells n] [--readers n]`
     Load(LoadArguments),
     /// `scan`
     Scan,

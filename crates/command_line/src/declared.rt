@@ -90,14 +90,16 @@ fn list<'a>(alloc: Global) -> Result<Command<'a>, AllocError>
     ensures shape { IfOk result (λ c. shape_of c ≡ grammar.list) }
     ensures local { IfOk result (λ c. (fields_of c).has_globals ≡ false) }
 {
-    with_required(alloc, Command::new(alloc, "list"), &["schema"])
+    let command = with_required(alloc, Command::new(alloc, "list"), &["schema"])?;
+    with_options(alloc, command, &["cells"])
 }
 
 fn load<'a>(alloc: Global) -> Result<Command<'a>, AllocError>
     ensures shape { IfOk result (λ c. shape_of c ≡ grammar.load) }
     ensures local { IfOk result (λ c. (fields_of c).has_globals ≡ false) }
 {
-    with_required(alloc, Command::new(alloc, "load"), &["schema"])
+    let command = with_required(alloc, Command::new(alloc, "load"), &["schema"])?;
+    with_options(alloc, command, &["bounds", "cells", "readers"])
 }
 
 fn scan<'a>(alloc: Global) -> Command<'a>

@@ -1,11 +1,13 @@
 //! Values of the matches, by what `clap` says of the words.
-ghost use Rattle.std.specs.Prelude.{◌≡◌, codes, option_map};
+ghost use Rattle.std.specs.Prelude.{◌≡◌, ◌≤◌, codes, option_map, IfOk, Ok};
 ghost use Rattle.clap.specs.Words.{found_of, rows_of, first_of, subcommand_rows_of};
 ghost use Rattle.std.specs.String.{string_bytes};
-ghost use Rattle.command_line.specs.Reading.{is_set, needed_text, one_way};
-ghost use Rattle.command_line.specs.Said.{AnswersCommand, way_of};
+ghost use Rattle.command_line.specs.Numbers.{cells_in, number_in, readers_in};
+ghost use Rattle.command_line.specs.Reading.{is_set, needed_text, one_way, text_or_none};
+ghost use Rattle.command_line.specs.Said.{AnswersCommand, AreCells, way_of};
 
 use crate::command::{KeyWay, WordsError};
+use crate::numbers::number_of;
 use clap::ArgMatches;
 use std::alloc::Global;
 
@@ -31,6 +33,68 @@ pub fn needed_text(alloc: Global, matches: &ArgMatches, name: &str) -> Result<St
         Some(text) => Ok(String::from_str(alloc, text)?),
         None => Err(WordsError::Usage),
     }
+}
+
+/// The text that stands for an argument, or the empty one.
+pub fn text_or_none(alloc: Global, matches: &ArgMatches, name: &str) -> Result<String, WordsError>
+    ensures { AnswersCommand string_bytes result (Ok (text_or_none (first_of name.now (rows_of (found_of matches.now))))) }
+{
+    match given(matches, name) {
+        Some(text) => Ok(String::from_str(alloc, text)?),
+        None => Ok(String::new(alloc)),
+    }
+}
+
+/// The text that stands for an argument, where it is there.
+pub fn some_text(
+    alloc: Global,
+    matches: &ArgMatches,
+    name: &str,
+) -> Result<Option<String>, WordsError>
+    ensures { AnswersCommand (option_map string_bytes) result (Ok (first_of name.now (rows_of (found_of matches.now)))) }
+{
+    match given(matches, name) {
+        Some(text) => Ok(Some(String::from_str(alloc, text)?)),
+        None => Ok(None),
+    }
+}
+
+/// The number of an option within its limits, or `default` where the option isn't there.
+fn number_in(
+    matches: &ArgMatches,
+    name: &str,
+    default: u32,
+    least: u64,
+    most: u32,
+) -> Result<u32, WordsError>
+    requires low { least ≤ default }
+    requires high { default ≤ most }
+    ensures limits { IfOk result (λ n. (least ≤ n) × (n ≤ most)) }
+    ensures number { AnswersCommand (λ n. n) result (number_in default least most (first_of name.now (rows_of (found_of matches.now)))) }
+{
+    let Some(text) = given(matches, name) else {
+        return Ok(default);
+    };
+    match number_of(text) {
+        Some(number) if least <= number && number <= u64::from(most) => Ok(number as u32),
+        _ => Err(WordsError::Usage),
+    }
+}
+
+/// How many cells a shard has.
+pub fn cells_in(matches: &ArgMatches) -> Result<u32, WordsError>
+    ensures limits { IfOk result AreCells }
+    ensures number { AnswersCommand (λ n. n) result (cells_in (first_of (codes "cells") (rows_of (found_of matches.now)))) }
+{
+    number_in(matches, "cells", 262_144, 1_024, 4_194_304)
+}
+
+/// How many readers there are.
+pub fn readers_in(matches: &ArgMatches) -> Result<u32, WordsError>
+    ensures limits { IfOk result (λ n. (1 ≤ n) × (n ≤ 8)) }
+    ensures number { AnswersCommand (λ n. n) result (readers_in (first_of (codes "readers") (rows_of (found_of matches.now)))) }
+{
+    number_in(matches, "readers", 2, 1, 8)
 }
 
 /// Whether the flag is there.

@@ -5,6 +5,7 @@ mod command;
 mod declared;
 mod getters;
 mod laws;
+mod numbers;
 mod reading;
 
 pub use command::{Command, KeyArguments, KeyWay, ListArguments, LoadArguments, WordsError};

@@ -1,14 +1,16 @@
 //! The words, read.
-ghost use Rattle.std.specs.Prelude.{◌≡◌, ◌↔◌, map};
+ghost use Rattle.std.specs.Prelude.{◌≡◌, ◌↔◌, map, IfOk};
 ghost use Rattle.std.specs.List.{list_any};
 ghost use Rattle.std.specs.String.{string_bytes};
 ghost use Rattle.clap.specs.Words.{found_of, kind_of, rows_of, subcommand_rows_of};
 ghost use Rattle.command_line.specs.Reading.{command_of, found_in, is_refused, key_in, list_in, load_in, said_by};
-ghost use Rattle.command_line.specs.Said.{AnswersCommand, said_of};
+ghost use Rattle.command_line.specs.Said.{AnswersCommand, IsLimited, said_of};
 
 use crate::command::{Command, KeyArguments, ListArguments, LoadArguments, WordsError};
 use crate::declared::tool;
-use crate::getters::{chosen, is_set, needed_text, one_way};
+use crate::getters::{
+    cells_in, chosen, is_set, needed_text, one_way, readers_in, text_or_none,
+};
 use clap::error::ErrorKind;
 use clap::{ArgMatches, Error};
 use std::alloc::Global;
@@ -53,21 +55,33 @@ fn matches_of<'a>(alloc: Global, words: &'a [String]) -> Result<ArgMatches<'a>, 
 }
 
 fn list(alloc: Global, matches: &ArgMatches) -> Result<Command, WordsError>
-    ensures { AnswersCommand said_of result (list_in (rows_of (found_of matches.now))) }
+    ensures limits { IfOk result IsLimited }
+    ensures said { AnswersCommand said_of result (list_in (rows_of (found_of matches.now))) }
 {
     let schema = needed_text(alloc, matches, "schema")?;
-    Ok(Command::List(ListArguments { schema }))
+    let cells = cells_in(matches)?;
+    Ok(Command::List(ListArguments { schema, cells }))
 }
 
 fn load(alloc: Global, matches: &ArgMatches) -> Result<Command, WordsError>
-    ensures { AnswersCommand said_of result (load_in (rows_of (found_of matches.now))) }
+    ensures limits { IfOk result IsLimited }
+    ensures said { AnswersCommand said_of result (load_in (rows_of (found_of matches.now))) }
 {
     let schema = needed_text(alloc, matches, "schema")?;
-    Ok(Command::Load(LoadArguments { schema }))
+    let bounds = text_or_none(alloc, matches, "bounds")?;
+    let cells = cells_in(matches)?;
+    let readers = readers_in(matches)?;
+    Ok(Command::Load(LoadArguments {
+        schema,
+        bounds,
+        cells,
+        readers,
+    }))
 }
 
 fn key(alloc: Global, matches: &ArgMatches) -> Result<Command, WordsError>
-    ensures { AnswersCommand said_of result (key_in (rows_of (found_of matches.now))) }
+    ensures limits { IfOk result IsLimited }
+    ensures said { AnswersCommand said_of result (key_in (rows_of (found_of matches.now))) }
 {
     let schema = needed_text(alloc, matches, "schema")?;
     let way = one_way(alloc, matches)?;
@@ -80,7 +94,8 @@ fn key(alloc: Global, matches: &ArgMatches) -> Result<Command, WordsError>
 }
 
 fn command(alloc: Global, name: &str, matches: &ArgMatches) -> Result<Command, WordsError>
-    ensures { AnswersCommand said_of result (said_by name.now (rows_of (found_of matches.now))) }
+    ensures limits { IfOk result IsLimited }
+    ensures said { AnswersCommand said_of result (said_by name.now (rows_of (found_of matches.now))) }
 {
     match name {
         "list" => list(alloc, matches),
@@ -94,7 +109,8 @@ fn command(alloc: Global, name: &str, matches: &ArgMatches) -> Result<Command, W
 /// The command that the words ask for. `Usage` comes exactly where a word asks for help or a version,
 /// where the declared command line does not take the words, or where a value is refused.
 pub fn read_words(alloc: Global, words: &[String]) -> Result<Command, WordsError>
-    ensures { AnswersCommand said_of result (command_of (map string_bytes words.now)) }
+    ensures limits { IfOk result IsLimited }
+    ensures said { AnswersCommand said_of result (command_of (map string_bytes words.now)) }
 {
     if has_refused(words) {
         return Err(WordsError::Usage);

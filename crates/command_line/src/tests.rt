@@ -1,5 +1,7 @@
 //! Vectors of words.
-use crate::{Command, KeyArguments, KeyWay, WordsError, read_words};
+use crate::{
+    Command, KeyArguments, KeyWay, ListArguments, LoadArguments, WordsError, read_words,
+};
 use std::alloc::{AllocError, Global};
 
 fn words_of(alloc: Global, words: &[&str]) -> Result<Vec<String>, AllocError> {
@@ -23,12 +25,23 @@ fn key_said(alloc: Global, arguments: KeyArguments) -> Result<String, AllocError
     }
 }
 
-/// The schema of `list` or `load`, what `key` says, or `scan`, or `usage`.
+/// The texts and numbers of the command, or `usage`.
 fn said_by(alloc: Global, words: &[&str]) -> Result<String, AllocError> {
     let texts = words_of(alloc, words)?;
     match read_words(alloc, texts.as_slice()) {
-        Ok(Command::List(arguments)) => Ok(arguments.schema),
-        Ok(Command::Load(arguments)) => Ok(arguments.schema),
+        Ok(Command::List(arguments)) => {
+            let ListArguments { schema, cells } = arguments;
+            format!(in alloc; "{schema} {cells}")
+        }
+        Ok(Command::Load(arguments)) => {
+            let LoadArguments {
+                schema,
+                bounds,
+                cells,
+                readers,
+            } = arguments;
+            format!(in alloc; "{schema} {bounds} {cells} {readers}")
+        }
         Ok(Command::Scan) => String::from_str(alloc, "scan"),
         Ok(Command::Key(arguments)) => key_said(alloc, arguments),
         Err(WordsError::Usage) => String::from_str(alloc, "usage"),
@@ -39,15 +52,28 @@ fn said_by(alloc: Global, words: &[&str]) -> Result<String, AllocError> {
 #[test]
 fn takes_the_commands(rt: HostRuntime) -> Result<(), AllocError> {
     let alloc = rt.alloc();
-    let table: [(&[&str], &str); 14] = [
-        (&["list", "--schema", "(int; ; text)"], "(int; ; text)"),
-        (&["list", "--schema=(int; ; text)"], "(int; ; text)"),
-        (&["list", "--schema="], ""),
-        (&["list", "--schema", ""], ""),
-        (&["list", "--schema=--x=y"], "--x=y"),
-        (&["list", "--schema", "list"], "list"),
-        (&["list", "--schema", "-"], "-"),
-        (&["load", "--schema", "(int; ; text)"], "(int; ; text)"),
+    let table: [(&[&str], &str); 18] = [
+        (
+            &["list", "--schema", "(int; ; text)"],
+            "(int; ; text) 262144",
+        ),
+        (&["list", "--schema="], " 262144"),
+        (&["list", "--schema", ""], " 262144"),
+        (&["list", "--schema=--x=y"], "--x=y 262144"),
+        (&["list", "--schema", "list"], "list 262144"),
+        (&["list", "--schema", "-"], "- 262144"),
+        (&["list", "--cells", "1024", "--schema", "s"], "s 1024"),
+        (&["list", "--cells=004194304", "--schema=s"], "s 4194304"),
+        (&["load", "--schema", "s"], "s  262144 2"),
+        (&["load", "--schema=s", "--bounds="], "s  262144 2"),
+        (
+            &["load", "--readers=1", "--bounds", "(1) (2)", "--schema=s"],
+            "s (1) (2) 262144 1",
+        ),
+        (
+            &["load", "--schema", "s", "--readers", "8", "--cells", "1024"],
+            "s  1024 8",
+        ),
         (&["scan"], "scan"),
         (
             &["key", "--schema", "s", "--encode", "(1)"],
@@ -74,7 +100,7 @@ fn takes_the_commands(rt: HostRuntime) -> Result<(), AllocError> {
 #[test]
 fn refuses_other_words(rt: HostRuntime) -> Result<(), AllocError> {
     let alloc = rt.alloc();
-    let table: [&[&str]; 36] = [
+    let table: [&[&str]; 46] = [
         &[],
         &[""],
         &["list"],
@@ -91,8 +117,17 @@ fn refuses_other_words(rt: HostRuntime) -> Result<(), AllocError> {
         &["list", "-schema", "s"],
         &["list", "-s", "s"],
         &["list", "--=s"],
-        &["list", "--schema", "s", "--cells", "9"],
+        &["list", "--schema", "s", "--cells", "1023"],
+        &["list", "--schema", "s", "--cells", "4194305"],
+        &["list", "--schema", "s", "--cells="],
+        &["list", "--schema", "s", "--cells=+2048"],
+        &["list", "--schema", "s", "--cells=2048 "],
+        &["list", "--schema", "s", "--cells=18446744073709553664"],
+        &["list", "--schema", "s", "--bounds", "(1)"],
         &["load"],
+        &["load", "--schema", "s", "--readers", "9"],
+        &["load", "--schema", "s", "--readers", "0"],
+        &["load", "--schema=s", "--bounds=(1)", "--bounds=(1)"],
         &["scan", "--schema", "s"],
         &["scan", "list"],
         &["key"],

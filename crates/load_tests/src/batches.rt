@@ -7,8 +7,9 @@ ghost use Rattle.load_work.specs.Puts.{IsPut};
 ghost use Rattle.load_work.specs.Work.{IsGetBelow, HaveLearnt};
 
 use key_types::{NoMemory, ValueBytes};
-use load_work::{Answer, BatchGet, BatchPut, LoadError, run_batch};
+use load_work::{Answer, LoadError, run_batch};
 use outside::Gate;
+use script_text::{GetLine, PutLine};
 use shard_table::{ShardTable, Workers};
 use std::alloc::Global;
 use std::process::Abort;
@@ -24,12 +25,12 @@ pub(crate) type GetRow<'a> = (u32, u32, &'a [u8]);
 pub(crate) type Wanted<'a> = (u32, u64, Option<&'a [u8]>);
 
 /// A put whose partition's string is the first six bytes of its key.
-fn put_of<'a>(rt: &impl Abort, row: PutRow<'a>) -> BatchPut<'a>
+fn put_of<'a>(rt: &impl Abort, row: PutRow<'a>) -> PutLine<'a>
     ensures { IsPut result }
 {
     let (line, key, value) = row;
     assert!(rt; key.len() >= 6 && key.len() <= 2048 && value.len() <= 65_535);
-    BatchPut {
+    PutLine {
         line,
         partition: &key[..6],
         key,
@@ -38,12 +39,12 @@ fn put_of<'a>(rt: &impl Abort, row: PutRow<'a>) -> BatchPut<'a>
 }
 
 /// A get whose partition's string is the first six bytes of its key.
-fn get_of<'a>(rt: &impl Abort, readers: usize, row: GetRow<'a>) -> BatchGet<'a>
+fn get_of<'a>(rt: &impl Abort, readers: usize, row: GetRow<'a>) -> GetLine<'a>
     ensures { IsGetBelow readers result }
 {
     let (line, reader, key) = row;
     assert!(rt; key.len() >= 6 && key.len() <= 2048 && (reader as usize) < readers);
-    BatchGet {
+    GetLine {
         line,
         reader,
         partition: &key[..6],
@@ -56,7 +57,7 @@ pub(crate) fn puts_of<'a>(
     rt: &impl Abort,
     alloc: Global,
     rows: &[PutRow<'a>],
-) -> Result<Vec<BatchPut<'a>>, NoMemory>
+) -> Result<Vec<PutLine<'a>>, NoMemory>
     ensures { IfOk result (λ puts. All IsPut puts.items) }
 {
     let mut puts = Vec::new(alloc);
@@ -72,7 +73,7 @@ pub(crate) fn gets_of<'a>(
     alloc: Global,
     readers: usize,
     rows: &[GetRow<'a>],
-) -> Result<Vec<BatchGet<'a>>, NoMemory>
+) -> Result<Vec<GetLine<'a>>, NoMemory>
     ensures { IfOk result (λ gets. All (IsGetBelow readers) gets.items) }
 {
     let mut gets = Vec::new(alloc);
@@ -121,8 +122,8 @@ pub(crate) fn check_batch<R: Abort + Threads + Sync, G: Gate>(
     alloc: Global,
     table: &ShardTable,
     workers: &mut Workers,
-    puts: &[BatchPut],
-    gets: &[BatchGet],
+    puts: &[PutLine],
+    gets: &[GetLine],
     gate: &G,
     wanted: &[Wanted],
 ) -> Result<(), LoadError>

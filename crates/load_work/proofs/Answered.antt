@@ -8,7 +8,7 @@ use Rattle.trie_rule.specs.Seats.{ReaderAt}
 use Rattle.trie_reader.specs.Read.{IsSeenRecord}
 use Rattle.shard_table.specs.Seats.{AreEach}
 use Rattle.shard_table.proofs.Each.{each_length, each_at, each_more}
-use Rattle.load_work.specs.declared.batch.BatchGet.{BatchGet}
+use Rattle.script_text.specs.declared.spans.GetLine.{GetLine}
 use Rattle.load_work.specs.declared.batch.Answer.{Answer}
 use Rattle.load_work.specs.Reads.{HasGrown, IsAnswered, AnswersTo, HasRead, AnswersRise}
 use Rattle.load_work.proofs.Lists.{old_or_last, get_before}
@@ -86,7 +86,7 @@ hit_longer seen later None start h = h
 hit_longer seen later (Some rec) start h = seen_longer seen later rec start h
 
 -- an answer stays one where its seat has grown
-pub answered_longer : (s t u : ReaderAt) (g : BatchGet) (a : Answer) → IsAnswered s t g a → HasGrown t u → IsAnswered s u g a
+pub answered_longer : (s t u : ReaderAt) (g : GetLine) (a : Answer) → IsAnswered s t g a → HasGrown t u → IsAnswered s u g a
 answered_longer s t u g a is more = record {
   least = is.least;
   most = omega (arith, is.most, more.front);
@@ -96,18 +96,18 @@ answered_longer s t u g a is more = record {
 }
 
 -- and where it knew less before
-answered_earlier : (r s t : ReaderAt) (g : BatchGet) (a : Answer) → HasGrown r s → IsAnswered s t g a → IsAnswered r t g a
+answered_earlier : (r s t : ReaderAt) (g : GetLine) (a : Answer) → HasGrown r s → IsAnswered s t g a → IsAnswered r t g a
 answered_earlier r s t g a more is = record { least = omega (arith, is.least, more.front); most = is.most; inside = is.inside; map = is.map; hit = is.hit }
 
 module _ (bounds : List (List ℕ)) (first before after : List ReaderAt) (was : AreEach HasGrown first before) (more : AreEach HasGrown before after) where
-  pub read_longer : (g : BatchGet) (a : Answer) → HasRead bounds first before g a → HasRead bounds first after g a
+  pub read_longer : (g : GetLine) (a : Answer) → HasRead bounds first before g a → HasRead bounds first after g a
   read_longer g a read = record {
     names = read.names;
     inside = read.inside;
     is = λ s u at to. let p = each_partner HasGrown before after a.shard u more to in answered_longer s p.0 u g a (read.is s p.0 at p.1) p.2;
   }
 
-  pub read_now : (g : BatchGet) (a : Answer) → HasRead bounds before after g a → HasRead bounds first after g a
+  pub read_now : (g : GetLine) (a : Answer) → HasRead bounds before after g a → HasRead bounds first after g a
   read_now g a read = record {
     names = read.names;
     inside = omega (arith, read.inside, each_length HasGrown first before was);
@@ -116,11 +116,11 @@ module _ (bounds : List (List ℕ)) (first before after : List ReaderAt) (was : 
   }
 
   -- one get more
-  pub reads_more : (gets : List BatchGet) (answers : List Answer) (g : BatchGet) (a : Answer) → AreEach (HasRead bounds first before) gets answers → HasRead bounds before after g a → AreEach (HasRead bounds first after) (gets ++ g ∷ []) (answers ++ a ∷ [])
+  pub reads_more : (gets : List GetLine) (answers : List Answer) (g : GetLine) (a : Answer) → AreEach (HasRead bounds first before) gets answers → HasRead bounds before after g a → AreEach (HasRead bounds first after) (gets ++ g ∷ []) (answers ++ a ∷ [])
   reads_more gets answers g a reads now = each_more (HasRead bounds first after) gets answers g a (each_weaker (HasRead bounds first before) (HasRead bounds first after) gets answers read_longer reads) (read_now g a now)
 
 -- the answer of the seat at the get's shard
-pub read_at : (bounds : List (List ℕ)) (seats : List ReaderAt) (i : ℕ) (s t : ReaderAt) (g : BatchGet) (a : Answer) → AnswersTo bounds g a → a.shard ≡ i → i < length seats → slice_get seats i ≡ Some s → IsAnswered s t g a → HasRead bounds seats (set seats i t) g a
+pub read_at : (bounds : List (List ℕ)) (seats : List ReaderAt) (i : ℕ) (s t : ReaderAt) (g : GetLine) (a : Answer) → AnswersTo bounds g a → a.shard ≡ i → i < length seats → slice_get seats i ≡ Some s → IsAnswered s t g a → HasRead bounds seats (set seats i t) g a
 read_at bounds seats i s t g a names e less here is = record {
   names = names;
   inside = omega (arith, e, less);
@@ -156,7 +156,7 @@ rises_more answers a rise last i j b c less at to same = by (old_or_last answers
 
 module _ (bounds : List (List ℕ)) (first before after : List ReaderAt) (was : AreEach HasGrown first before) (more : AreEach HasGrown before after) where
   -- the next answer stands for no fewer puts than those before it at its shard
-  pub rises_now : (gets : List BatchGet) (answers : List Answer) (g : BatchGet) (a : Answer) (s : ReaderAt) → AreEach (HasRead bounds first before) gets answers → HasRead bounds before after g a → slice_get before a.shard ≡ Some s → AnswersRise answers → AnswersRise (answers ++ a ∷ [])
+  pub rises_now : (gets : List GetLine) (answers : List Answer) (g : GetLine) (a : Answer) (s : ReaderAt) → AreEach (HasRead bounds first before) gets answers → HasRead bounds before after g a → slice_get before a.shard ≡ Some s → AnswersRise answers → AnswersRise (answers ++ a ∷ [])
   rises_now gets answers g a s reads now here rise = rises_more answers a rise (λ i b at same.
       let p = each_partner (HasRead bounds first before) gets answers i b reads at in
       let here' : slice_get before b.shard ≡ Some s = subst (λ (n : ℕ). slice_get before n ≡ Some s) (sym same) here in

@@ -3,8 +3,8 @@ use Rattle.std.proofs.Common.{rules, ◌≡◌, ◌+◌, false, ℕ, suc, ◌<�
 use Rattle.std.specs.Global.{Vec}
 use Rattle.trie_rule.specs.Seats.{CellsAt, WriterAt, ReaderAt}
 use Rattle.shard_table.specs.Seats.{TableAt, AreEach, IsFreeWriter, IsFreeReader}
-use Rattle.load_work.specs.declared.batch.BatchPut.{BatchPut}
-use Rattle.load_work.specs.declared.batch.BatchGet.{BatchGet}
+use Rattle.script_text.specs.declared.spans.PutLine.{PutLine}
+use Rattle.script_text.specs.declared.spans.GetLine.{GetLine}
 use Rattle.load_work.specs.declared.batch.Answer.{Answer}
 use Rattle.load_work.specs.declared.jobs.Job.{Job}
 use Rattle.load_work.specs.declared.jobs.Job.TheVariants.{Write, Read}
@@ -18,20 +18,20 @@ use Rattle.shard_table.specs.Shards.{shard_index}
 use Rattle.load_work.proofs.Lists.{any_default, filter_passed_over, get_part, or_part}
 use Rattle.load_work.proofs.Answered.{each_with_itself, each_partner, grown_same, rises_alone}
 
-module _ (table : TableAt) (puts : List BatchPut) (gets : List BatchGet) where
+module _ (table : TableAt) (puts : List PutLine) (gets : List GetLine) where
   -- what workers leave that have nothing to do
   pub idle_reader : (q : ℕ) (seats : Vec ReaderAt) (none : Vec Answer) → AreEach IsFreeReader table.shards seats.items → gets_of q gets ≡ [] → none.items ≡ [] → HasRun table puts gets (Read q seats) (done.HasRead seats (Ok none))
   idle_reader q seats none free without e = (
     free,
     each_with_itself HasGrown seats.items grown_same,
     (
-      subst (λ (l : List Answer). AreEach (HasRead table.bounds seats.items seats.items) (gets_of q gets) l) (sym e) (subst (λ (l : List BatchGet). AreEach (HasRead table.bounds seats.items seats.items) l []) (sym without) tt),
+      subst (λ (l : List Answer). AreEach (HasRead table.bounds seats.items seats.items) (gets_of q gets) l) (sym e) (subst (λ (l : List GetLine). AreEach (HasRead table.bounds seats.items seats.items) l []) (sym without) tt),
       rises_alone none.items e,
     ),
   )
 
   pub idle_writer : (i : ℕ) (seat : WriterAt) → CanRun table (Write i seat) → puts_of table.bounds i puts ≡ [] → HasRun table puts gets (Write i seat) (done.Wrote seat None)
-  idle_writer i seat can without = (can, subst (λ (l : List BatchPut). Makes seat.knows l seat.knows) (sym without) refl)
+  idle_writer i seat can without = (can, subst (λ (l : List PutLine). Makes seat.knows l seat.knows) (sym without) refl)
 
   module _ (workers : List Job) (at m n : ℕ) (same : at ≡ m) (next : n ≡ suc m) (jobs : List Job) (places : List (Option Done)) where
     -- the worker stands before those that were dealt
@@ -61,12 +61,12 @@ writer_can table at all now rest seat e same free =
     let p = each_partner IsFreeWriter table.shards all at seat free there in (p.0, p.1, (p.2.own, p.2.idle))
 
 -- a get of another reader, and a put that goes to another shard
-pub other_reader : (gets : List BatchGet) (k q : ℕ) (d : BatchGet) → k < length gets → ((slice_index_or gets k d).reader ≡ q → ⊥) → gets_of q (take (k + 1) gets) ≡ gets_of q (take k gets)
+pub other_reader : (gets : List GetLine) (k q : ℕ) (d : GetLine) → k < length gets → ((slice_index_or gets k d).reader ≡ q → ⊥) → gets_of q (take (k + 1) gets) ≡ gets_of q (take k gets)
 other_reader gets k q d less other =
-    let get : BatchGet = slice_index_or gets k d in let fails : is_of q get ≡ false = search rules in
+    let get : GetLine = slice_index_or gets k d in let fails : is_of q get ≡ false = search rules in
     filter_passed_over (is_of q) gets k get less (any_default gets k d get less) fails
 
-pub other_shard : (bounds : List (List ℕ)) (puts : List BatchPut) (k i n : ℕ) (d : BatchPut) → k < length puts → n ≡ shard_index bounds (slice_index_or puts k d).partition.now → (n ≡ i → ⊥) → puts_of bounds i (take (k + 1) puts) ≡ puts_of bounds i (take k puts)
+pub other_shard : (bounds : List (List ℕ)) (puts : List PutLine) (k i n : ℕ) (d : PutLine) → k < length puts → n ≡ shard_index bounds (slice_index_or puts k d).partition.now → (n ≡ i → ⊥) → puts_of bounds i (take (k + 1) puts) ≡ puts_of bounds i (take k puts)
 other_shard bounds puts k i n d less is other =
-    let put : BatchPut = slice_index_or puts k d in let fails : goes_to bounds i put ≡ false = search rules in
+    let put : PutLine = slice_index_or puts k d in let fails : goes_to bounds i put ≡ false = search rules in
     filter_passed_over (goes_to bounds i) puts k put less (any_default puts k d put less) fails

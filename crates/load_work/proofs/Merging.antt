@@ -6,19 +6,19 @@ use Rattle.std.proofs.lemmas.List.{reverse-append, length-reverse}
 use Rattle.std.proofs.lemmas.Option.{slice_get-get_or, slice_get_within}
 use Rattle.shard_table.specs.Seats.{AreEach}
 use Rattle.shard_table.proofs.Seated.{item_there}
-use Rattle.load_work.specs.declared.batch.BatchGet.{BatchGet}
+use Rattle.script_text.specs.declared.spans.GetLine.{GetLine}
 use Rattle.load_work.specs.declared.batch.Answer.{Answer}
 use Rattle.load_work.specs.Reads.{is_of, gets_of}
 use Rattle.load_work.specs.Merge.{answers_of, IsMerge}
 use Rattle.load_work.proofs.Lists.{dropped, taken, filter_more, set_cases, item_at}
 
-own_get : (g : BatchGet) → is_of g.reader g ≡ true
+own_get : (g : GetLine) → is_of g.reader g ≡ true
 own_get g = search rules
 
-other_get : (g : BatchGet) (q : ℕ) → q ≢ g.reader → is_of q g ≡ false
+other_get : (g : GetLine) (q : ℕ) → q ≢ g.reader → is_of q g ≡ false
 other_get g q ne = let turned : g.reader ≢ q = λ e. ne (sym e) in search rules
 
-module _ (gets : List BatchGet) (m : ℕ) (g : BatchGet) (at : slice_get gets m ≡ Some g) where
+module _ (gets : List GetLine) (m : ℕ) (g : GetLine) (at : slice_get gets m ≡ Some g) where
   gets_taken : (q : ℕ) → gets_of q (take (suc m) gets) ≡ gets_of q (take m gets) ++ gets_of q (g ∷ [])
   gets_taken q = ap (gets_of q) (taken gets m g at) ∙ filter_more (is_of q) (take m gets) (g ∷ [])
 
@@ -34,7 +34,7 @@ module _ (gets : List BatchGet) (m : ℕ) (g : BatchGet) (at : slice_get gets m 
 
   module _ (answers : List Answer) (a : Answer) where
     answers_turned : (q : ℕ) → answers_of q (drop m gets) (reverse (answers ++ a ∷ [])) ≡ cond (is_of q g) (a ∷ answers_of q (drop (suc m) gets) (reverse answers)) (answers_of q (drop (suc m) gets) (reverse answers))
-    answers_turned q = ap (λ (l : List BatchGet). answers_of q l (reverse (answers ++ a ∷ []))) (dropped gets m g at) ∙ ap (answers_of q (g ∷ drop (suc m) gets)) (reverse-append answers (a ∷ []))
+    answers_turned q = ap (λ (l : List GetLine). answers_of q l (reverse (answers ++ a ∷ []))) (dropped gets m g at) ∙ ap (answers_of q (g ∷ drop (suc m) gets)) (reverse-append answers (a ∷ []))
 
     own_answers : answers_of g.reader (drop m gets) (reverse (answers ++ a ∷ [])) ≡ a ∷ answers_of g.reader (drop (suc m) gets) (reverse answers)
     own_answers = answers_turned g.reader ∙ ap (λ (b : Bool). cond b (a ∷ answers_of g.reader (drop (suc m) gets) (reverse answers)) (answers_of g.reader (drop (suc m) gets) (reverse answers))) (own_get g)
@@ -69,9 +69,9 @@ module _ (gets : List BatchGet) (m : ℕ) (g : BatchGet) (at : slice_get gets m 
         merged_more q all list from to = each_case q all list from (set_cases lists g.reader q new list to)
 
 -- the next get, whose reader's last answer is taken
-module _ (gets : List BatchGet) (m k : ℕ) (e : k ≡ suc m) (d : BatchGet) (less : m < length gets) (firsts lists : Vec (Vec Answer)) (readers : All (λ (g : BatchGet). g.reader < vec_len firsts) gets) (count : vec_len lists ≡ vec_len firsts)
+module _ (gets : List GetLine) (m k : ℕ) (e : k ≡ suc m) (d : GetLine) (less : m < length gets) (firsts lists : Vec (Vec Answer)) (readers : All (λ (g : GetLine). g.reader < vec_len firsts) gets) (count : vec_len lists ≡ vec_len firsts)
     (old : Vec Answer) (value : old ≡ slice_index_or lists.items (slice_index_or gets m d).reader old) (long : (q : ℕ) (list : Vec Answer) → slice_get lists.items q ≡ Some list → length list.items ≡ length (gets_of q (take k gets))) where
-  abbrev get : BatchGet
+  abbrev get : GetLine
   get = slice_index_or gets m d
 
   get_at : slice_get gets m ≡ Some get
@@ -98,7 +98,7 @@ module _ (gets : List BatchGet) (m k : ℕ) (e : k ≡ suc m) (d : BatchGet) (le
         (λ p all' list' from' to'. subst (λ (n : ℕ). all'.items ≡ list'.items ++ answers_of p (drop n gets) (reverse answers)) e (was p all' list' from' to')) q all list from to)
 
 -- each answer is taken
-pub all_merged : (gets : List BatchGet) (firsts lists : Vec (Vec Answer)) (answers turned : List Answer) (k : ℕ) → k ≡ 0 → turned ≡ reverse answers → vec_len lists ≡ vec_len firsts → length answers ≡ length (drop k gets)
+pub all_merged : (gets : List GetLine) (firsts lists : Vec (Vec Answer)) (answers turned : List Answer) (k : ℕ) → k ≡ 0 → turned ≡ reverse answers → vec_len lists ≡ vec_len firsts → length answers ≡ length (drop k gets)
     → ((q : ℕ) (list : Vec Answer) → slice_get lists.items q ≡ Some list → length list.items ≡ length (gets_of q (take k gets)))
     → ((q : ℕ) (all list : Vec Answer) → slice_get firsts.items q ≡ Some all → slice_get lists.items q ≡ Some list → all.items ≡ list.items ++ answers_of q (drop k gets) (reverse answers))
     → IsMerge gets firsts.items turned
@@ -116,24 +116,24 @@ all_merged gets firsts lists answers turned k e is count len long each =
     rest_alone xs (y ∷ ys) zs n e = absurd (omega arith)
 
 -- what holds of each reader's gets and answers holds of all
-module _ (P : BatchGet → Answer → Type 0) (q : ℕ) where
-  tail : (b : Bool) (g : BatchGet) (a : Answer) (gets : List BatchGet) (answers : List Answer) → AreEach P (cond b (g ∷ gets) gets) (cond b (a ∷ answers) answers) → AreEach P gets answers
+module _ (P : GetLine → Answer → Type 0) (q : ℕ) where
+  tail : (b : Bool) (g : GetLine) (a : Answer) (gets : List GetLine) (answers : List Answer) → AreEach P (cond b (g ∷ gets) gets) (cond b (a ∷ answers) answers) → AreEach P gets answers
   tail true g a gets answers h = h.1
   tail false g a gets answers h = h
 
-  pub of_all : (gets : List BatchGet) (answers : List Answer) (i : ℕ) (g : BatchGet) (a : Answer) → AreEach P (gets_of q gets) (answers_of q gets answers) → slice_get gets i ≡ Some g → slice_get answers i ≡ Some a → g.reader ≡ q → P g a
+  pub of_all : (gets : List GetLine) (answers : List Answer) (i : ℕ) (g : GetLine) (a : Answer) → AreEach P (gets_of q gets) (answers_of q gets answers) → slice_get gets i ≡ Some g → slice_get answers i ≡ Some a → g.reader ≡ q → P g a
   of_all [] answers i g a each at to is = absurd (cc)
   of_all (h ∷ gets) [] i g a each at to is = absurd (cc)
   of_all (h ∷ gets) (b ∷ answers) zero g a each at to is =
       let same_get : h ≡ g = cc in let same_answer : b ≡ a = cc in
-      let mine : is_of q h ≡ true = ap (λ (x : BatchGet). is_of q x) same_get ∙ ap (λ (n : ℕ). is_of n g) (sym is) ∙ own_get g in
+      let mine : is_of q h ≡ true = ap (λ (x : GetLine). is_of q x) same_get ∙ ap (λ (n : ℕ). is_of n g) (sym is) ∙ own_get g in
       let now = subst (λ (t : Bool). AreEach P (cond t (h ∷ gets_of q gets) (gets_of q gets)) (cond t (b ∷ answers_of q gets answers) (answers_of q gets answers))) mine each in
-      subst (λ (x : BatchGet). P x a) same_get (subst (P h) same_answer now.0)
+      subst (λ (x : GetLine). P x a) same_get (subst (P h) same_answer now.0)
   of_all (h ∷ gets) (b ∷ answers) (suc i) g a each at to is = of_all gets answers i g a (tail (is_of q h) h b (gets_of q gets) (answers_of q gets answers) each) at to is
 
 -- where answers stand among those of their reader
 module _ (q : ℕ) where
-  own_head : (h : BatchGet) (gets : List BatchGet) (b : Answer) (answers : List Answer) → h.reader ≡ q → answers_of q (h ∷ gets) (b ∷ answers) ≡ b ∷ answers_of q gets answers
+  own_head : (h : GetLine) (gets : List GetLine) (b : Answer) (answers : List Answer) → h.reader ≡ q → answers_of q (h ∷ gets) (b ∷ answers) ≡ b ∷ answers_of q gets answers
   own_head h gets b answers is = ap (λ (t : Bool). cond t (b ∷ answers_of q gets answers) (answers_of q gets answers)) (ap (λ (n : ℕ). is_of n h) (sym is) ∙ own_get h)
 
   place_behind : (t : Bool) (b : Answer) (rest : List Answer) (i : ℕ) (a : Answer) → slice_get rest i ≡ Some a → (m : ℕ) × (slice_get (cond t (b ∷ rest) rest) m ≡ Some a)
@@ -144,22 +144,22 @@ module _ (q : ℕ) where
   places_behind true c rest i j a b less at to = (suc i, suc j, omega (arith, less), at, to)
   places_behind false c rest i j a b less at to = (i, j, less, at, to)
 
-  place : (gets : List BatchGet) (answers : List Answer) (i : ℕ) (g : BatchGet) (a : Answer) → slice_get gets i ≡ Some g → slice_get answers i ≡ Some a → g.reader ≡ q → (m : ℕ) × (slice_get (answers_of q gets answers) m ≡ Some a)
+  place : (gets : List GetLine) (answers : List Answer) (i : ℕ) (g : GetLine) (a : Answer) → slice_get gets i ≡ Some g → slice_get answers i ≡ Some a → g.reader ≡ q → (m : ℕ) × (slice_get (answers_of q gets answers) m ≡ Some a)
   place [] answers i g a at to is = absurd (cc)
   place (h ∷ gets) [] i g a at to is = absurd (cc)
   place (h ∷ gets) (b ∷ answers) zero g a at to is =
       let same : h ≡ g = cc in let there : slice_get (b ∷ answers_of q gets answers) 0 ≡ Some a = to in
-      (0, subst (λ (l : List Answer). slice_get l 0 ≡ Some a) (sym (own_head h gets b answers (ap (λ (x : BatchGet). x.reader) same ∙ is))) there)
+      (0, subst (λ (l : List Answer). slice_get l 0 ≡ Some a) (sym (own_head h gets b answers (ap (λ (x : GetLine). x.reader) same ∙ is))) there)
   place (h ∷ gets) (b ∷ answers) (suc i) g a at to is = let p = place gets answers i g a at to is in place_behind (is_of q h) b (answers_of q gets answers) p.0 a p.1
 
-  pub places : (gets : List BatchGet) (answers : List Answer) (i j : ℕ) (g h : BatchGet) (a b : Answer) → i < j → slice_get gets i ≡ Some g → slice_get gets j ≡ Some h → slice_get answers i ≡ Some a → slice_get answers j ≡ Some b → g.reader ≡ q → h.reader ≡ q
+  pub places : (gets : List GetLine) (answers : List Answer) (i j : ℕ) (g h : GetLine) (a b : Answer) → i < j → slice_get gets i ≡ Some g → slice_get gets j ≡ Some h → slice_get answers i ≡ Some a → slice_get answers j ≡ Some b → g.reader ≡ q → h.reader ≡ q
       → (m n : ℕ) × (m < n) × (slice_get (answers_of q gets answers) m ≡ Some a) × (slice_get (answers_of q gets answers) n ≡ Some b)
   places [] answers i j g h a b less gi gj ai aj is it = absurd (cc)
   places (x ∷ gets) [] i j g h a b less gi gj ai aj is it = absurd (cc)
   places (x ∷ gets) (y ∷ answers) i zero g h a b less gi gj ai aj is it = absurd (omega arith)
   places (x ∷ gets) (y ∷ answers) zero (suc j) g h a b less gi gj ai aj is it =
       let p = place gets answers j h b gj aj it in let same : x ≡ g = cc in
-      let e = own_head x gets y answers (ap (λ (z : BatchGet). z.reader) same ∙ is) in
+      let e = own_head x gets y answers (ap (λ (z : GetLine). z.reader) same ∙ is) in
       let first : slice_get (y ∷ answers_of q gets answers) 0 ≡ Some a = ai in
       let second : slice_get (y ∷ answers_of q gets answers) (suc p.0) ≡ Some b = p.1 in
       (0, suc p.0, omega arith, subst (λ (l : List Answer). slice_get l 0 ≡ Some a) (sym e) first, subst (λ (l : List Answer). slice_get l (suc p.0) ≡ Some b) (sym e) second)

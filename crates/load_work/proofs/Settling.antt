@@ -8,7 +8,7 @@ use Rattle.trie_writer.specs.Written.{MayWrite}
 use Rattle.trie_reader.specs.Read.{MayRead}
 use Rattle.shard_table.specs.Seats.{AreEach, IsFreeWriter, IsFreeReader}
 use Rattle.shard_table.proofs.Each.{each_length, each_at, each_index}
-use Rattle.load_work.specs.declared.batch.BatchGet.{BatchGet}
+use Rattle.script_text.specs.declared.spans.GetLine.{GetLine}
 use Rattle.load_work.specs.declared.batch.Answer.{Answer}
 use Rattle.load_work.specs.Reads.{HasGrown}
 use Rattle.load_work.specs.Work.{HasLearnt}
@@ -43,7 +43,7 @@ module _ (writers : List WriterAt) (seats : List ReaderAt) (i : ℕ) (d : Writer
   learnt_more j w s less at to = learnt_case j w s less at (set_cases seats i j t s to)
 
 -- one answer more is bounded
-module _ (writers now_writers : List WriterAt) (same : now_writers ≡ writers) (gets : List BatchGet) (first answers : List Answer) (i : ℕ) (d : BatchGet) (e : Answer) (inside : i < length first) (left : slice_get answers i ≡ slice_get first i) where
+module _ (writers now_writers : List WriterAt) (same : now_writers ≡ writers) (gets : List GetLine) (first answers : List Answer) (i : ℕ) (d : GetLine) (e : Answer) (inside : i < length first) (left : slice_get answers i ≡ slice_get first i) where
   still_there : slice_index_or answers i e ≡ slice_index_or first i e
   still_there = get_or_from_slice_get answers i (slice_index_or first i e) e (left ∙ slice_get-get_or first i e inside)
 
@@ -54,17 +54,17 @@ module _ (writers now_writers : List WriterAt) (same : now_writers ≡ writers) 
       (subst (CanBeBounded writers (slice_index_or gets i d)) (sym still_there) (each_index (CanBeBounded writers) gets first i d e can less))
 
   module _ (b : Answer) (now : IsBounded now_writers (slice_index_or gets i d) (slice_index_or answers i e) b)
-      (was : (j : ℕ) (g : BatchGet) (a c : Answer) → j < i → slice_get gets j ≡ Some g → slice_get first j ≡ Some a → slice_get answers j ≡ Some c → IsBounded writers g a c) where
-    bounded_case : (j : ℕ) (g : BatchGet) (a c : Answer) → j < i + 1 → slice_get gets j ≡ Some g → slice_get first j ≡ Some a → ((j ≡ i) × (b ≡ c)) ⊎ ((j ≢ i) × (slice_get answers j ≡ Some c)) → IsBounded writers g a c
+      (was : (j : ℕ) (g : GetLine) (a c : Answer) → j < i → slice_get gets j ≡ Some g → slice_get first j ≡ Some a → slice_get answers j ≡ Some c → IsBounded writers g a c) where
+    bounded_case : (j : ℕ) (g : GetLine) (a c : Answer) → j < i + 1 → slice_get gets j ≡ Some g → slice_get first j ≡ Some a → ((j ≡ i) × (b ≡ c)) ⊎ ((j ≢ i) × (slice_get answers j ≡ Some c)) → IsBounded writers g a c
     bounded_case j g a c less at to (inl h) =
         let g_is : slice_index_or gets i d ≡ g = get_or_from_slice_get gets i g d (subst (λ (n : ℕ). slice_get gets n ≡ Some g) h.0 at) in
         let a_is : slice_index_or answers i e ≡ a = still_there ∙ get_or_from_slice_get first i a e (subst (λ (n : ℕ). slice_get first n ≡ Some a) h.0 to) in
-        subst (λ (x : BatchGet). IsBounded writers x a c) g_is (subst (λ (x : Answer). IsBounded writers (slice_index_or gets i d) x c) a_is
+        subst (λ (x : GetLine). IsBounded writers x a c) g_is (subst (λ (x : Answer). IsBounded writers (slice_index_or gets i d) x c) a_is
         (subst (λ (x : Answer). IsBounded writers (slice_index_or gets i d) (slice_index_or answers i e) x) h.1
         (subst (λ (ws : List WriterAt). IsBounded ws (slice_index_or gets i d) (slice_index_or answers i e) b) same now)))
     bounded_case j g a c less at to (inr h) = was j g a c (omega (arith, h.0, less)) at to h.1
 
-    pub bounded_more : (j : ℕ) (g : BatchGet) (a c : Answer) → j < i + 1 → slice_get gets j ≡ Some g → slice_get first j ≡ Some a → slice_get (set answers i b) j ≡ Some c → IsBounded writers g a c
+    pub bounded_more : (j : ℕ) (g : GetLine) (a c : Answer) → j < i + 1 → slice_get gets j ≡ Some g → slice_get first j ≡ Some a → slice_get (set answers i b) j ≡ Some c → IsBounded writers g a c
     bounded_more j g a c less at to now' = bounded_case j g a c less at to (set_cases answers i j b c now')
 
 -- a vector whose items were all written again

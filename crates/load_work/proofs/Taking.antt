@@ -6,8 +6,8 @@ use Rattle.std.proofs.lemmas.Option.{slice_get_within, IfSome_then}
 use Rattle.trie_rule.specs.Seats.{CellsAt, WriterAt, ReaderAt}
 use Rattle.shard_table.specs.Seats.{TableAt, AreEach, IsFreeWriter, IsFreeReader}
 use Rattle.shard_table.proofs.Each.{each_last, each_length, all_more}
-use Rattle.load_work.specs.declared.batch.BatchPut.{BatchPut}
-use Rattle.load_work.specs.declared.batch.BatchGet.{BatchGet}
+use Rattle.script_text.specs.declared.spans.PutLine.{PutLine}
+use Rattle.script_text.specs.declared.spans.GetLine.{GetLine}
 use Rattle.load_work.specs.declared.batch.Answer.{Answer}
 use Rattle.load_work.specs.declared.jobs.Job.{Job}
 use Rattle.load_work.specs.declared.jobs.Job.TheVariants.{Write, Read}
@@ -27,7 +27,7 @@ same_ends (z ∷ []) [] x y e = absurd (cc)
 same_ends (z ∷ w ∷ xs) [] x y e = absurd (cc)
 same_ends (z ∷ xs) (w ∷ ys) x y e = let t : xs ++ x ∷ [] ≡ ys ++ y ∷ [] = cc in let h = same_ends xs ys x y t in let f : z ≡ w = cc in ((ap (λ (v : _). v ∷ xs) f ∙ ap (λ (l : List _). w ∷ l) h.0), h.1)
 
-module _ (table : TableAt) (puts : List BatchPut) (gets : List BatchGet) where
+module _ (table : TableAt) (puts : List PutLine) (gets : List GetLine) where
   -- each job can be done
   pub can_run : (workers jobs : List Job) (places : List (Option Done)) → IsDealt table puts gets workers jobs places → All (CanRun table) jobs
   can_run [] jobs places h = subst (All (CanRun table)) (sym h.0) (λ k d less. absurd (omega arith))
@@ -98,7 +98,7 @@ either_line P (Some a) (Some b) f g = by (min_is a b)
     by (inr e) = subst P (sym e) g
 
 -- one writer more
-module _ (table : TableAt) (puts : List BatchPut) (gets : List BatchGet) (before after : List WriterAt) (first : Option ℕ) (k : ℕ) (s t : WriterAt) (full : Option ℕ)
+module _ (table : TableAt) (puts : List PutLine) (gets : List GetLine) (before after : List WriterAt) (first : Option ℕ) (k : ℕ) (s t : WriterAt) (full : Option ℕ)
     (was : HaveWritten table puts (take k before) after first) (at : slice_get before k ≡ Some s) (run : HasRun table puts gets (Write k s) (done.Wrote t full)) where
   front : length (take k before) ≡ k
   front = length-take-le k before (omega (arith, slice_get_within before k s at))
@@ -141,7 +141,7 @@ module _ (table : TableAt) (puts : List BatchPut) (gets : List BatchGet) (before
   })
 
 -- one reader more
-module _ (table : TableAt) (puts : List BatchPut) (gets : List BatchGet) (before after : List (Vec ReaderAt)) (lists : List (Vec Answer)) (k : ℕ) (old new : Vec ReaderAt) (list : Vec Answer)
+module _ (table : TableAt) (puts : List PutLine) (gets : List GetLine) (before after : List (Vec ReaderAt)) (lists : List (Vec Answer)) (k : ℕ) (old new : Vec ReaderAt) (list : Vec Answer)
     (was : HaveRead table gets (take k before) after lists) (at : slice_get before k ≡ Some old) (run : HasRun table puts gets (Read k old) (done.HasRead new (Ok list))) where
   readers_front : length (take k before) ≡ k
   readers_front = length-take-le k before (omega (arith, slice_get_within before k old at))
@@ -171,7 +171,7 @@ module _ (table : TableAt) (puts : List BatchPut) (gets : List BatchGet) (before
   })
 
 -- none is taken yet, and all are
-pub none_written : (table : TableAt) (puts : List BatchPut) (before after : List WriterAt) → after ≡ [] → HaveWritten table puts (take 0 before) after None
+pub none_written : (table : TableAt) (puts : List PutLine) (before after : List WriterAt) → after ≡ [] → HaveWritten table puts (take 0 before) after None
 none_written table puts before after e = subst (λ (l : List WriterAt). HaveWritten table puts [] l None) (sym e) (record {
   len = refl;
   free = λ i t at. absurd (cc);
@@ -179,7 +179,7 @@ none_written table puts before after e = subst (λ (l : List WriterAt). HaveWrit
   first_is = tt;
 })
 
-pub none_read : (table : TableAt) (gets : List BatchGet) (before after : List (Vec ReaderAt)) (lists : List (Vec Answer)) → after ≡ [] → lists ≡ [] → HaveRead table gets (take 0 before) after lists
+pub none_read : (table : TableAt) (gets : List GetLine) (before after : List (Vec ReaderAt)) (lists : List (Vec Answer)) → after ≡ [] → lists ≡ [] → HaveRead table gets (take 0 before) after lists
 none_read table gets before after lists e f =
     subst (λ (l : List (Vec ReaderAt)). HaveRead table gets [] l lists) (sym e) (subst (λ (l : List (Vec Answer)). HaveRead table gets [] [] l) (sym f) (record {
       len = refl;
@@ -189,6 +189,6 @@ none_read table gets before after lists e f =
     }))
 
 -- what the jobs left, with the places
-pub all_left : (table : TableAt) (puts : List BatchPut) (gets : List BatchGet) (workers : List Job) (jobs : Vec Job) (left : Vec Done) (places : List (Option Done)) → IsDealt table puts gets workers jobs.items places → vec_len left ≡ vec_len jobs
+pub all_left : (table : TableAt) (puts : List PutLine) (gets : List GetLine) (workers : List Job) (jobs : Vec Job) (left : Vec Done) (places : List (Option Done)) → IsDealt table puts gets workers jobs.items places → vec_len left ≡ vec_len jobs
     → EachHasRun table puts gets jobs.items left.items → IsLeft table puts gets workers left.items places
 all_left table puts gets workers jobs left places dealt len each = (jobs.items, dealt, each_by_place (HasRun table puts gets) jobs.items left.items (omega (arith, jobs.ok.0, left.ok.0, len)) (λ i job one at to. each i job one at to))

@@ -14,8 +14,8 @@ use Rattle.shard_table.specs.declared.workers.Workers.{Workers}
 use Rattle.shard_table.specs.Seats.{TableAt, AreEach, AreWorkers, IsFreeWriter, IsFreeReader, IsNewWriter, IsNewReader, OfSeat}
 use Rattle.shard_table.proofs.Each.{each_length, each_at}
 use Rattle.shard_table.proofs.Seated.{the_seat}
-use Rattle.load_work.specs.declared.batch.BatchPut.{BatchPut}
-use Rattle.load_work.specs.declared.batch.BatchGet.{BatchGet}
+use Rattle.script_text.specs.declared.spans.PutLine.{PutLine}
+use Rattle.script_text.specs.declared.spans.GetLine.{GetLine}
 use Rattle.load_work.specs.declared.batch.Answer.{Answer}
 use Rattle.load_work.specs.Puts.{Makes, StopsAt, HasNoRoom, HasWritten, after_put, puts_of}
 use Rattle.load_work.specs.Reads.{HasGrown, IsAnswered, AnswersTo, HasRead, AnswersRise, gets_of}
@@ -27,31 +27,31 @@ use Rattle.load_work.proofs.Answered.{answered_longer, each_other}
 use Rattle.load_work.proofs.Merging.{of_all, places}
 
 -- puts that were all made leave none for which there is no room, and the first such put is one
-room_for_all : (w w' v : WriteView) (made : List BatchPut) (put : BatchPut) (left : List BatchPut) → Makes w (made ++ put ∷ left) w' → Makes w made v → HasNoRoom v put → ⊥
+room_for_all : (w w' v : WriteView) (made : List PutLine) (put : PutLine) (left : List PutLine) → Makes w (made ++ put ∷ left) w' → Makes w made v → HasNoRoom v put → ⊥
 room_for_all w w' v [] put left all made full = all.0 (subst (λ (z : WriteView). HasNoRoom z put) made full)
 room_for_all w w' v (p ∷ made) put left all some full = room_for_all (after_put w p) w' v made put left all.1 some.1 full
 
-never_full : (w w' v : WriteView) (puts : List BatchPut) (line : ℕ) → Makes w puts w' → StopsAt w puts line v → ⊥
-never_full w w' v puts line all stop = room_for_all w w' v stop.made stop.put stop.left (subst (λ (l : List BatchPut). Makes w l w') stop.puts_are all) stop.makes stop.full
+never_full : (w w' v : WriteView) (puts : List PutLine) (line : ℕ) → Makes w puts w' → StopsAt w puts line v → ⊥
+never_full w w' v puts line all stop = room_for_all w w' v stop.made stop.put stop.left (subst (λ (l : List PutLine). Makes w l w') stop.puts_are all) stop.makes stop.full
 
-same_put : (w u v : WriteView) (made other : List BatchPut) (put last : BatchPut) (left rest : List BatchPut) → made ++ put ∷ left ≡ other ++ last ∷ rest → Makes w made u → HasNoRoom u put → Makes w other v → HasNoRoom v last → put ≡ last
+same_put : (w u v : WriteView) (made other : List PutLine) (put last : PutLine) (left rest : List PutLine) → made ++ put ∷ left ≡ other ++ last ∷ rest → Makes w made u → HasNoRoom u put → Makes w other v → HasNoRoom v last → put ≡ last
 same_put w u v [] [] put last left rest e a f b g = cc
 same_put w u v [] (q ∷ other) put last left rest e a f b g = let same : put ≡ q = cc in absurd (b.0 (subst (HasNoRoom w) same (subst (λ (z : WriteView). HasNoRoom z put) a f)))
 same_put w u v (p ∷ made) [] put last left rest e a f b g = let same : last ≡ p = cc in absurd (a.0 (subst (HasNoRoom w) same (subst (λ (z : WriteView). HasNoRoom z last) b g)))
 same_put w u v (p ∷ made) (q ∷ other) put last left rest e a f b g =
     let same : q ≡ p = cc in let tails : made ++ put ∷ left ≡ other ++ last ∷ rest = cc in
-    same_put (after_put w p) u v made other put last left rest tails a.1 f (subst (λ (z : BatchPut). Makes (after_put w z) other v) same b.1) g
+    same_put (after_put w p) u v made other put last left rest tails a.1 f (subst (λ (z : PutLine). Makes (after_put w z) other v) same b.1) g
 
-same_line : (w u v : WriteView) (puts : List BatchPut) (line other : ℕ) → StopsAt w puts line u → StopsAt w puts other v → line ≡ other
+same_line : (w u v : WriteView) (puts : List PutLine) (line other : ℕ) → StopsAt w puts line u → StopsAt w puts other v → line ≡ other
 same_line w u v puts line other a b =
-    a.line_is ∙ ap (λ (p : BatchPut). p.line) (same_put w u v a.made b.made a.put b.put a.left b.left (sym a.puts_are ∙ b.puts_are) a.makes a.full b.makes b.full) ∙ sym b.line_is
+    a.line_is ∙ ap (λ (p : PutLine). p.line) (same_put w u v a.made b.made a.put b.put a.left b.left (sym a.puts_are ∙ b.puts_are) a.makes a.full b.makes b.full) ∙ sym b.line_is
 
-makes_grows : (w w' : WriteView) (puts : List BatchPut) → Makes w puts w' → length w.made ≤ length w'.made
+makes_grows : (w w' : WriteView) (puts : List PutLine) → Makes w puts w' → length w.made ≤ length w'.made
 makes_grows w w' [] e = omega (arith, ap (λ (z : WriteView). length z.made) e)
 makes_grows w w' (p ∷ puts) (room, h) = omega (arith, makes_grows (after_put w p) w' puts h, length-append w.made (put_at p.key.now p.value.now w.used ∷ []))
 
 -- what the writers left
-module _ (table : TableAt) (puts : List BatchPut) (w : Workers) (after : List WriterAt) (first : Option ℕ) (written : HaveWritten table puts w.writers.items after first) where
+module _ (table : TableAt) (puts : List PutLine) (w : Workers) (after : List WriterAt) (first : Option ℕ) (written : HaveWritten table puts w.writers.items after first) where
   pub writers_free : length table.shards ≡ length w.writers.items → AreEach IsFreeWriter table.shards after
   writers_free long = each_by_place IsFreeWriter table.shards after (long ∙ sym written.len) (λ i c t at to.
       let f = written.free i t to in let same : f.0 ≡ c = cc in subst (λ (x : CellsAt). IsFreeWriter x t) same f.2)
@@ -89,7 +89,7 @@ module _ (table : TableAt) (puts : List BatchPut) (w : Workers) (after : List Wr
           by i other s t o.0 stop f.0 f.1 (subst (λ (x : Option ℕ). IsNoLater x f.0) is f.2)
 
 -- each reader left an answer to each of its gets
-pub left_long : (table : TableAt) (gets : List BatchGet) (before after : List (Vec ReaderAt)) (lists : List (Vec Answer)) → HaveRead table gets before after lists → (q : ℕ) (list : Vec Answer) → slice_get lists q ≡ Some list → length list.items ≡ length (gets_of q gets)
+pub left_long : (table : TableAt) (gets : List GetLine) (before after : List (Vec ReaderAt)) (lists : List (Vec Answer)) → HaveRead table gets before after lists → (q : ℕ) (list : Vec Answer) → slice_get lists q ≡ Some list → length list.items ≡ length (gets_of q gets)
 left_long table gets before after lists read q list at =
     let inside = slice_get_within lists q list at in
     let old = item_at before q (omega (arith, inside, read.lists)) in let new = item_at after q (omega (arith, inside, read.lists, read.len)) in
@@ -121,7 +121,7 @@ hit_seen (Some rec) n made seen key (m, put, last, is) start = (
 )
 
 -- the readers' gets are made and merged, and the readers know all puts
-pub record Ran (table : TableAt) (puts : List BatchPut) (gets : List BatchGet) (start mid now : Workers) (lists : List (Vec Answer)) (first : Option ℕ) (merged : List Answer) : Type 0 where
+pub record Ran (table : TableAt) (puts : List PutLine) (gets : List GetLine) (start mid now : Workers) (lists : List (Vec Answer)) (first : Option ℕ) (merged : List Answer) : Type 0 where
   pub workers : AreWorkers table.shards start
   pub learnt : HaveLearnt start
   pub below : All (IsGetBelow (vec_len start.readers)) gets
@@ -134,9 +134,9 @@ pub record Ran (table : TableAt) (puts : List BatchPut) (gets : List BatchGet) (
   pub told : HaveLearnt now
   pub merge : IsMerge gets lists merged
 
-module _ (table : TableAt) (puts : List BatchPut) (gets : List BatchGet) (start mid now : Workers) (lists : List (Vec Answer)) (first : Option ℕ) (merged : List Answer) (ran : Ran table puts gets start mid now lists first merged) where
+module _ (table : TableAt) (puts : List PutLine) (gets : List GetLine) (start mid now : Workers) (lists : List (Vec Answer)) (first : Option ℕ) (merged : List Answer) (ran : Ran table puts gets start mid now lists first merged) where
   -- the seats of the get's reader, before the batch, after it, and now
-  record ReadsOf (g : BatchGet) (a : Answer) : Type 0 where
+  record ReadsOf (g : GetLine) (a : Answer) : Type 0 where
     old : Vec ReaderAt
     new : Vec ReaderAt
     told : Vec ReaderAt
@@ -155,7 +155,7 @@ module _ (table : TableAt) (puts : List BatchPut) (gets : List BatchGet) (start 
   item_of : {X : Type 0} (P : X → Type 0) (xs : List X) (i : ℕ) (x : X) → All P xs → slice_get xs i ≡ Some x → P x
   item_of P xs i x all at = subst P (get_or_from_slice_get xs i x x at) (all i x (slice_get_within xs i x at))
 
-  reads_of : (i : ℕ) (g : BatchGet) (a : Answer) → slice_get gets i ≡ Some g → slice_get merged i ≡ Some a → ReadsOf g a
+  reads_of : (i : ℕ) (g : GetLine) (a : Answer) → slice_get gets i ≡ Some g → slice_get merged i ≡ Some a → ReadsOf g a
   reads_of i g a at to =
       let q = g.reader in
       let below : IsGetBelow (vec_len start.readers) g = item_of (IsGetBelow (vec_len start.readers)) gets i g ran.below at in
@@ -186,7 +186,7 @@ module _ (table : TableAt) (puts : List BatchPut) (gets : List BatchGet) (start 
   writers_long = omega (arith, ap length ran.same, ran.written.len, each_length IsFreeWriter table.shards start.writers.items ran.workers.writing)
 
   -- the seat that answered, and what it knows now
-  record Seen (g : BatchGet) (a : Answer) : Type 0 where
+  record Seen (g : GetLine) (a : Answer) : Type 0 where
     before : ReaderAt
     after : ReaderAt
     before_at : (old : Vec ReaderAt) → slice_get start.readers.items g.reader ≡ Some old → slice_get old.items a.shard ≡ Some before
@@ -199,7 +199,7 @@ module _ (table : TableAt) (puts : List BatchPut) (gets : List BatchGet) (start 
     knows : (w : WriterAt) → slice_get now.writers.items a.shard ≡ Some w → HasLearnt w after
     names : AnswersTo table.bounds g a
 
-  seen_of : (i : ℕ) (g : BatchGet) (a : Answer) → slice_get gets i ≡ Some g → slice_get merged i ≡ Some a → Seen g a
+  seen_of : (i : ℕ) (g : GetLine) (a : Answer) → slice_get gets i ≡ Some g → slice_get merged i ≡ Some a → Seen g a
   seen_of i g a at to =
       let r = reads_of i g a at to in
       let s = item_at r.old.items a.shard r.read.inside in
@@ -219,14 +219,14 @@ module _ (table : TableAt) (puts : List BatchPut) (gets : List BatchGet) (start 
         names = r.read.names;
       }
 
-  pub can_bound : (i : ℕ) (g : BatchGet) (a : Answer) → slice_get gets i ≡ Some g → slice_get merged i ≡ Some a → CanBeBounded now.writers.items g a
+  pub can_bound : (i : ℕ) (g : GetLine) (a : Answer) → slice_get gets i ≡ Some g → slice_get merged i ≡ Some a → CanBeBounded now.writers.items g a
   can_bound i g a at to = let n = seen_of i g a at to in record {
     inside = n.inside;
     found = λ w there. (n.after.knows.seen, (n.knows w there).seen, n.answered.inside, n.answered.map);
   }
 
   module _ (after : Workers) (writers_are : after.writers.items ≡ now.writers.items) (readers_are : after.readers ≡ now.readers) where
-    legal : (g : BatchGet) (a b : Answer) → Seen g a → IsBounded now.writers.items g a b → (s t : WriterAt) → slice_get start.writers.items b.shard ≡ Some s → slice_get after.writers.items b.shard ≡ Some t → IsLegal s.knows.made t.knows.made g b
+    legal : (g : GetLine) (a b : Answer) → Seen g a → IsBounded now.writers.items g a b → (s t : WriterAt) → slice_get start.writers.items b.shard ≡ Some s → slice_get after.writers.items b.shard ≡ Some t → IsLegal s.knows.made t.knows.made g b
     legal g a b n bound s t at to =
         let at' : slice_get start.writers.items a.shard ≡ Some s = subst (λ (i : ℕ). slice_get start.writers.items i ≡ Some s) bound.shard at in
         let to' : slice_get now.writers.items a.shard ≡ Some t = subst (λ (l : List WriterAt). slice_get l a.shard ≡ Some t) writers_are (subst (λ (i : ℕ). slice_get after.writers.items i ≡ Some t) bound.shard to) in
@@ -238,7 +238,7 @@ module _ (table : TableAt) (puts : List BatchPut) (gets : List BatchGet) (start 
           map = bound.map t to';
         }
 
-    seen_after : (g : BatchGet) (a b : Answer) → Seen g a → IsBounded now.writers.items g a b → IfSome b.hit (λ rec. OfSeat (λ seat. IsSeenRecord seat.knows.seen rec) after b.reader b.shard)
+    seen_after : (g : GetLine) (a b : Answer) → Seen g a → IsBounded now.writers.items g a b → IfSome b.hit (λ rec. OfSeat (λ seat. IsSeenRecord seat.knows.seen rec) after b.reader b.shard)
     seen_after g a b n bound =
         let w = item_at now.writers.items a.shard n.inside in
         let row_at : slice_get after.readers.items b.reader ≡ Some n.row =
@@ -247,7 +247,7 @@ module _ (table : TableAt) (puts : List BatchPut) (gets : List BatchGet) (start 
         IfSome_then b.hit (hit_seen b.hit b.at w.0.knows.made n.after.knows.seen g.key.now (bound.map w.0 w.1) (n.knows w.0 w.1).seen)
         (λ rec seen. the_seat (λ (seat : ReaderAt). IsSeenRecord seat.knows.seen rec) after b.reader b.shard n.row n.after row_at seat_at seen)
 
-    module _ (answers : List Answer) (long : length answers ≡ length merged) (bounded : (i : ℕ) (g : BatchGet) (a b : Answer) → slice_get gets i ≡ Some g → slice_get merged i ≡ Some a → slice_get answers i ≡ Some b → IsBounded now.writers.items g a b) where
+    module _ (answers : List Answer) (long : length answers ≡ length merged) (bounded : (i : ℕ) (g : GetLine) (a b : Answer) → slice_get gets i ≡ Some g → slice_get merged i ≡ Some a → slice_get answers i ≡ Some b → IsBounded now.writers.items g a b) where
       pub all_answered : AreEach (IsAnswerOf table start after) gets answers
       all_answered = each_by_place (IsAnswerOf table start after) gets answers (omega (arith, long, ran.merge.len)) (λ i g b at to.
           let a = item_at merged i (omega (arith, long, slice_get_within answers i b to)) in

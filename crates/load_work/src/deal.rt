@@ -2,17 +2,17 @@
 
 ghost use Rattle.std.specs.Prelude.{◌≡◌, ◌≤◌, [], ◌∷◌, ◌++◌, true, false, IfOk, List, All, vec_len, length};
 ghost use Rattle.shard_table.specs.Seats.{TableAt, AreEach, AreWorkers, IsFreeWriter, IsFreeReader};
-ghost use Rattle.load_work.specs.declared.batch.BatchPut.{BatchPut};
-ghost use Rattle.load_work.specs.declared.batch.BatchGet.{BatchGet};
+ghost use Rattle.script_text.specs.declared.spans.PutLine.{PutLine};
+ghost use Rattle.script_text.specs.declared.spans.GetLine.{GetLine};
 ghost use Rattle.load_work.specs.declared.jobs.Job.{Job};
 ghost use Rattle.load_work.specs.Puts.{puts_of};
 ghost use Rattle.load_work.specs.Reads.{gets_of};
 ghost use Rattle.load_work.specs.Jobs.{CanRun, HasRun};
 ghost use Rattle.load_work.specs.Deal.{IsDealt, DealsJob, DealsDone, DealsReaders, DealsWriters, jobs_of};
 
-use crate::batch::{BatchGet, BatchPut};
 use crate::jobs::{Done, Job};
 use key_types::NoMemory;
+use script_text::{GetLine, PutLine};
 use shard_table::{ShardTable, Workers};
 use std::alloc::Global;
 use std::mem;
@@ -27,7 +27,7 @@ pub(crate) struct Dealt {
 }
 
 /// Whether a put goes to the shard.
-fn has_puts(table: &ShardTable, puts: &[BatchPut], shard: usize) -> bool
+fn has_puts(table: &ShardTable, puts: &[PutLine], shard: usize) -> bool
     ensures { result ≡ false → puts_of table.now.bounds shard puts.now ≡ [] }
 {
     'puts: for put in puts {
@@ -39,7 +39,7 @@ fn has_puts(table: &ShardTable, puts: &[BatchPut], shard: usize) -> bool
 }
 
 /// Whether a get is of this reader.
-fn has_gets(gets: &[BatchGet], reader: u32) -> bool
+fn has_gets(gets: &[GetLine], reader: u32) -> bool
     ensures { result ≡ false → gets_of reader gets.now ≡ [] }
 {
     'gets: for get in gets {
@@ -55,8 +55,8 @@ impl Dealt {
     pub(crate) fn of(
         alloc: Global,
         table: &ShardTable,
-        puts: &[BatchPut],
-        gets: &[BatchGet],
+        puts: &[PutLine],
+        gets: &[GetLine],
         workers: &mut Workers,
     ) -> Result<Dealt, NoMemory>
         requires few { length table.now.shards ≤ 8 }
@@ -106,7 +106,7 @@ impl Dealt {
     fn deal_readers(
         &mut self,
         alloc: Global,
-        gets: &[BatchGet],
+        gets: &[GetLine],
         readers: Vec<Vec<ReadSeat>>,
     ) -> Result<(), NoMemory>
         requires few { vec_len readers ≤ 8 }
@@ -129,7 +129,7 @@ impl Dealt {
     fn deal_writers(
         &mut self,
         table: &ShardTable,
-        puts: &[BatchPut],
+        puts: &[PutLine],
         writers: Vec<WriteSeat>,
     ) -> Result<(), NoMemory>
         requires few { vec_len writers ≤ 8 }

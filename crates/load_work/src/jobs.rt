@@ -5,11 +5,12 @@ ghost use Rattle.load_work.specs.Puts.{IsPut};
 ghost use Rattle.load_work.specs.Reads.{IsGet};
 ghost use Rattle.load_work.specs.Jobs.{CanRun, HasRun, EachHasRun};
 
-use crate::batch::{Answer, BatchGet, BatchPut};
+use crate::batch::Answer;
 use crate::read::make_gets;
 use crate::write::make_puts;
 use key_types::NoMemory;
 use outside::Gate;
+use script_text::{GetLine, PutLine};
 use shard_table::ShardTable;
 use std::alloc::{AllocError, Global};
 use std::thread;
@@ -34,8 +35,8 @@ pub(crate) enum Done {
 fn run_job<G: Gate>(
     alloc: Global,
     table: &ShardTable,
-    puts: &[BatchPut],
-    gets: &[BatchGet],
+    puts: &[PutLine],
+    gets: &[GetLine],
     gate: &G,
     job: Job,
 ) -> Done
@@ -69,8 +70,8 @@ pub(crate) fn run_jobs<R: Threads + Sync, G: Gate>(
     rt: &R,
     alloc: Global,
     table: &ShardTable,
-    puts: &[BatchPut],
-    gets: &[BatchGet],
+    puts: &[PutLine],
+    gets: &[GetLine],
     gate: &G,
     jobs: Vec<Job>,
 ) -> Result<Vec<Done>, AllocError>

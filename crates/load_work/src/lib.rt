@@ -15,7 +15,7 @@ mod settle;
 mod work;
 mod write;
 
-pub use batch::{Answer, BatchGet, BatchPut};
+pub use batch::Answer;
 pub use work::{LoadError, run_batch};
 
 /// The readers of a new table know all puts that were made there.

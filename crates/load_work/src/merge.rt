@@ -6,8 +6,9 @@ ghost use Rattle.load_work.specs.declared.batch.Answer.{Answer};
 ghost use Rattle.load_work.specs.Reads.{gets_of};
 ghost use Rattle.load_work.specs.Merge.{IsMerge};
 
-use crate::batch::{Answer, BatchGet};
+use crate::batch::Answer;
 use key_types::NoMemory;
+use script_text::GetLine;
 use std::alloc::Global;
 
 /// The answers of all readers, each of which answered its gets in their order.
@@ -15,7 +16,7 @@ use std::alloc::Global;
 /// Gets are passed from the last one to the first, so that each answer is the last one that its reader has left.
 pub(crate) fn merge(
     alloc: Global,
-    gets: &[BatchGet],
+    gets: &[GetLine],
     lists: Vec<Vec<Answer>>,
 ) -> Result<Vec<Answer>, NoMemory>
     requires readers { All (λ g. g.reader < vec_len lists) gets.now }

@@ -5,9 +5,10 @@ ghost use Rattle.trie_reader.specs.Read.{MayRead};
 ghost use Rattle.shard_table.specs.Seats.{AreEach, IsFreeReader};
 ghost use Rattle.load_work.specs.Reads.{IsGet, HasGrown, IsAnswered, AnswersTo, HasRead, AnswersRise, gets_of};
 
-use crate::batch::{Answer, BatchGet};
+use crate::batch::Answer;
 use key_types::NoMemory;
 use outside::{Gate, Steps};
+use script_text::GetLine;
 use shard_table::ShardTable;
 use std::alloc::Global;
 use std::marker::Brand;
@@ -20,7 +21,7 @@ fn answer_with<L: Ledger>(
     cells: &ShardCells,
     shard: u32,
     seat: &mut ReadSeat,
-    get: &BatchGet,
+    get: &GetLine,
     blank: Blank,
 ) -> Answer
     requires name { blank.name ≡ L.name }
@@ -47,7 +48,7 @@ fn answer_with<L: Ledger>(
 }
 
 /// The answer to a get of this shard.
-fn answer(cells: &ShardCells, shard: u32, seat: &mut ReadSeat, get: &BatchGet) -> Answer
+fn answer(cells: &ShardCells, shard: u32, seat: &mut ReadSeat, get: &GetLine) -> Answer
     requires may { MayRead cells.now seat.old }
     requires get { IsGet get.now }
     ensures may { MayRead cells.now seat.new }
@@ -61,7 +62,7 @@ fn answer(cells: &ShardCells, shard: u32, seat: &mut ReadSeat, get: &BatchGet) -
 }
 
 /// Reads what a get asks for, by the reader's seat at its shard.
-fn read_get<G: Gate>(table: &ShardTable, seats: &mut [ReadSeat], get: &BatchGet, gate: &G) -> Answer
+fn read_get<G: Gate>(table: &ShardTable, seats: &mut [ReadSeat], get: &GetLine, gate: &G) -> Answer
     requires few { length table.now.shards ≤ 8 }
     requires seats { AreEach IsFreeReader table.now.shards seats.old }
     requires get { IsGet get.now }
@@ -80,7 +81,7 @@ pub(crate) fn make_gets<G: Gate>(
     table: &ShardTable,
     reader: u32,
     seats: &mut [ReadSeat],
-    gets: &[BatchGet],
+    gets: &[GetLine],
     gate: &G,
 ) -> Result<Vec<Answer>, NoMemory>
     requires few { length table.now.shards ≤ 8 }

@@ -5,13 +5,14 @@ ghost use Rattle.trie_image.specs.Puts.{HasLastPut};
 ghost use Rattle.trie_writer.specs.Written.{MayWrite};
 ghost use Rattle.trie_reader.specs.Read.{MayRead};
 ghost use Rattle.shard_table.specs.Seats.{AreEach, AreWorkers, IsFreeWriter, IsFreeReader};
-ghost use Rattle.load_work.specs.declared.batch.BatchGet.{BatchGet};
+ghost use Rattle.script_text.specs.declared.spans.GetLine.{GetLine};
 ghost use Rattle.load_work.specs.declared.batch.Answer.{Answer};
 ghost use Rattle.load_work.specs.Reads.{IsGet, HasGrown};
 ghost use Rattle.load_work.specs.Work.{HasLearnt, HaveLearnt, IsFoundFrom};
 ghost use Rattle.load_work.specs.Merge.{ReadersHaveGrown, CanBeBounded, IsBounded};
 
-use crate::batch::{Answer, BatchGet};
+use crate::batch::Answer;
+use script_text::GetLine;
 use shard_table::{ShardTable, Workers};
 use trie_reader::{Found, learn};
 use trie_rule::{ReadSeat, ShardCells, WriteSeat};
@@ -87,7 +88,7 @@ pub(crate) fn learn_all(
 }
 
 /// The answer to the get, bounded by the puts made.
-fn bound(table: &ShardTable, writers: &mut [WriteSeat], get: &BatchGet, answer: Answer) -> Answer
+fn bound(table: &ShardTable, writers: &mut [WriteSeat], get: &GetLine, answer: Answer) -> Answer
     requires writing { AreEach IsFreeWriter table.now.shards writers.old }
     requires get { IsGet get.now }
     requires can { CanBeBounded writers.old get.now answer }
@@ -111,7 +112,7 @@ fn bound(table: &ShardTable, writers: &mut [WriteSeat], get: &BatchGet, answer: 
 pub(crate) fn bound_all(
     table: &ShardTable,
     writers: &mut [WriteSeat],
-    gets: &[BatchGet],
+    gets: &[GetLine],
     answers: &mut [Answer],
 )
     requires writing { AreEach IsFreeWriter table.now.shards writers.old }
@@ -119,7 +120,7 @@ pub(crate) fn bound_all(
     requires can { AreEach (CanBeBounded writers.old) gets.now answers.old }
     ensures same { writers.new ≡ writers.old }
     ensures len { length answers.new ≡ length answers.old }
-    ensures bounded { (i : ℕ) (g : BatchGet) (a b : Answer) → slice_get gets.now i ≡ Some g →
+    ensures bounded { (i : ℕ) (g : GetLine) (a b : Answer) → slice_get gets.now i ≡ Some g →
         slice_get answers.old i ≡ Some a → slice_get answers.new i ≡ Some b → IsBounded writers.old g a b }
 {
     for i in 0..gets.len() {

@@ -8,7 +8,7 @@ ghost use Rattle.load_work.specs.Reads.{IsGet};
 ghost use Rattle.load_work.specs.Deal.{HaveWritten, HaveRead};
 ghost use Rattle.load_work.specs.Work.{IsGetBelow, HaveLearnt, HaveMade, HaveTried, IsAnswerOf, ReadsRise, IsFirstFull, NoneIsFull, LeavesWorkers};
 
-use crate::batch::{Answer, BatchGet, BatchPut};
+use crate::batch::Answer;
 use crate::deal::Dealt;
 use crate::jobs::run_jobs;
 use crate::left::Left;
@@ -16,6 +16,7 @@ use crate::merge::merge;
 use crate::settle::{bound_all, tell_readers};
 use key_types::NoMemory;
 use outside::Gate;
+use script_text::{GetLine, PutLine};
 use shard_table::{ShardTable, Workers};
 use std::alloc::Global;
 use std::thread::Threads;
@@ -45,8 +46,8 @@ fn run_workers<R: Threads + Sync, G: Gate>(
     alloc: Global,
     table: &ShardTable,
     workers: &mut Workers,
-    puts: &[BatchPut],
-    gets: &[BatchGet],
+    puts: &[PutLine],
+    gets: &[GetLine],
     gate: &G,
 ) -> Result<(Vec<Vec<Answer>>, Option<u32>), NoMemory>
     requires few { length table.now.shards ≤ 8 }
@@ -82,8 +83,8 @@ pub fn run_batch<R: Threads + Sync, G: Gate>(
     alloc: Global,
     table: &ShardTable,
     workers: &mut Workers,
-    puts: &[BatchPut],
-    gets: &[BatchGet],
+    puts: &[PutLine],
+    gets: &[GetLine],
     gate: &G,
 ) -> Result<Vec<Answer>, LoadError>
     requires few { length table.now.shards ≤ 8 }

@@ -4,8 +4,8 @@ ghost use Rattle.std.specs.Prelude.{◌≡◌, ◌<◌, ◌≤◌, ◌^◌, ℕ,
 ghost use Rattle.trie_writer.specs.Written.{MayWrite};
 ghost use Rattle.load_work.specs.Puts.{IsPut, HasTried, HasWritten};
 
-use crate::batch::BatchPut;
 use outside::Gate;
+use script_text::PutLine;
 use shard_table::ShardTable;
 use trie_rule::{ShardCells, WriteSeat};
 use trie_writer::put;
@@ -16,7 +16,7 @@ fn try_put<G: Gate>(
     cells: &ShardCells,
     shard: u32,
     seat: &mut WriteSeat,
-    line: &BatchPut,
+    line: &PutLine,
     gate: &G,
 ) -> bool
     requires may { MayWrite cells.now seat.old }
@@ -37,7 +37,7 @@ pub(crate) fn make_puts<G: Gate>(
     cells: &ShardCells,
     shard: u32,
     seat: &mut WriteSeat,
-    puts: &[BatchPut],
+    puts: &[PutLine],
     gate: &G,
 ) -> Option<u32>
     requires may { MayWrite cells.now seat.old }

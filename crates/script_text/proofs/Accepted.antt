@@ -1,147 +1,189 @@
--- What the puts of an accepted script are.
-use Rattle.std.proofs.Common.{◌≡◌, ℕ, suc, ◌+◌, ◌≤◌, Bool, true, false, ◌||◌, List, [], ◌∷◌, length, Option, Some, None, Result, Ok, Err, refl, sym, ap, arith, subst, inl, inr}
-use Rattle.std.specs.Prelude.{if◌then◌else◌, nat_lt}
-use Rattle.std.specs.Str.{is_utf8}
-use Rattle.std.proofs.lemmas.Bool.Decides.{nat_tests}
-use Rattle.std.proofs.lemmas.List.{append-nil}
+-- What the batches of an accepted script are.
+use Rattle.std.proofs.Common.{◌≡◌, ℕ, suc, ◌+◌, ◌%◌, ◌≤◌, ◌<◌, List, [], ◌∷◌, ◌++◌, length, Option, Some, None, Ok, refl, sym, arith, subst, inl, inr}
+use Rattle.std.specs.Prelude.{map}
+use Rattle.std.proofs.lemmas.Nat.{mod_below}
 use Rattle.key_types.specs.declared.schema.ValueType.{ValueType}
 use Rattle.key_types.specs.declared.schema.ValueType.TheVariants.{Text, Blob}
-use Rattle.key_types.specs.Kinds.{Kinds, Val, number, bytes, truth, values, Vals, Fits, EachFits}
-use Rattle.byte_comparable.specs.Encoding.{key_string}
-use Rattle.key_types.specs.Columns.{Columns, IsValueOf}
-use Rattle.script_text.specs.Puts.{Put}
+use Rattle.key_types.specs.Kinds as kinds
+use Rattle.key_types.specs.Kinds.{Val, Vals, Fits}
+use Rattle.key_types.specs.Columns.{Columns, IsValueOf, longest_value}
+use Rattle.script_text.specs.Puts.{Put, Get, Batch}
 use Rattle.script_text.specs.declared.script.Script.{Script}
-use Rattle.script_text.specs.declared.script.LineCause.{LineCause}
-use Rattle.script_text.specs.declared.script.LineCause.TheVariants.{NotUtf8, KeyTooLong, ValueTooLong}
-use Rattle.script_text.specs.declared.script.ScriptError.{ScriptError}
-use Rattle.script_text.specs.declared.script.ScriptError.TheVariants.{BadLine, TooLarge}
 use Rattle.script_text.specs.Lines.{lines_of}
-use Rattle.script_text.specs.Grammar.{PutText, value_kind, IsTypeOf, RowFits, PutFits}
-use Rattle.script_text.specs.Reading.{line_of}
-use Rattle.script_text.specs.Script.{◌>>=◌, key_of, row_key, value_bytes, short_value, put_of, some_put, put_on, at_line, in_front, with_rest, puts_from, one_batch, script_of, puts_of}
-use Rattle.script_text.specs.Laws.{IsKeyString, IsSchemaPut, ArePuts, IsAccepted}
-use Rattle.script_text.proofs.Told.{line_fits}
+use Rattle.script_text.specs.Grammar.{LineText, no_text, put_text, get_text, sync_text, value_kind, IsLine, PutFits, LineFits}
+use Rattle.script_text.specs.Script.{batches_of, puts_of, gets_of, script_with, most_lines, script_of}
+use Rattle.script_text.specs.Meaning.{IsShort, IsAcceptedLine, AreAcceptedLines, IsTooLarge, IsScript}
+use Rattle.script_text.specs.Laws.{IsSchemaPut, ArePuts, IsSchemaGet, AreGets, AreDealt, NumbersAscend, PutsAscend, GetsAscend, EachAscends, IsAccepted}
+use Rattle.script_text.proofs.Batches.{puts_kept, gets_kept}
+use Rattle.script_text.proofs.Meaning.{computed, few_lines}
+use Rattle.script_text.specs.Spelled.{Line, no_line, put_line, get_line, sync_line, value_bytes, spelled_put, spelled_line, gets_after, puts_in, gets_in}
 
--- what two steps answer
-abbrev Steps : {A B E : Type 0} → Result A E → (A → Result B E) → B → Type 0
-Steps {A} first f b = (a : A) × (first ≡ Ok a) × (f a ≡ Ok b)
+-- ---- a line
 
-steps : {A B E : Type 0} (first : Result A E) (f : A → Result B E) (b : B) → (first >>= f) ≡ Ok b → Steps first f b
-steps (Ok a) f b h = (a, refl, h)
-steps (Err e) f b h = cc
+column_value : (t : ValueType) (v : Val) → Fits (value_kind t) v → length (value_bytes v) ≤ longest_value → IsValueOf t (value_bytes v)
+column_value Text (kinds.number z) h l = absurd h
+column_value Text (kinds.bytes b) h l = (l, h.0)
+column_value Text (kinds.truth b) h l = absurd h
+column_value Text (kinds.values vs) h l = absurd h
+column_value Blob (kinds.number z) h l = absurd h
+column_value Blob (kinds.bytes b) h l = l
+column_value Blob (kinds.truth b) h l = absurd h
+column_value Blob (kinds.values vs) h l = absurd h
 
--- ---- keys and values
+module _ (s : Columns) (number reader : ℕ) where
+  -- what a line is that was accepted
+  abbrev IsLineOf : Line → Type 0
+  IsLineOf no_line = Unit {0}
+  IsLineOf (put_line p) = IsSchemaPut s p × (p.line ≡ number)
+  IsLineOf (get_line g) = IsSchemaGet s g × (g.line ≡ number) × (g.reader ≡ reader)
+  IsLineOf sync_line = Unit {0}
 
-key_by : (t : Bool) (ts : Kinds) (vs : Vals) (string : List ℕ) → nat_lt 1024 (length (key_string ts vs)) ≡ t → EachFits ts vs
-    → ◌≡◌ {A = Result (List ℕ) LineCause} (if t then Err (KeyTooLong (length (key_string ts vs))) else Ok (key_string ts vs)) (Ok string) → IsKeyString ts string
-key_by true ts vs string e h is = cc
-key_by false ts vs string e h is =
-    let same : key_string ts vs ≡ string = cc in
-    let few : length (key_string ts vs) ≤ 1024 = grind (arith, nat_tests) in
-    (vs, h, sym same, subst (λ (x : List ℕ). length x ≤ 1024) same few)
+  put_is : (vs : Vals) (cs : Option Vals) (v : Val) → PutFits s (record { key = record { partition = vs; clustering = cs }; value = v })
+      → IsShort (put_line (spelled_put s number (record { key = record { partition = vs; clustering = cs }; value = v }))) → IsSchemaPut s (spelled_put s number (record { key = record { partition = vs; clustering = cs }; value = v }))
+  put_is vs (Some cs) v (fits, (t, typed, set)) short =
+      ((vs, fits.0, refl, short.0.0), inl ((cs, fits.1, refl, short.0.1), column_value s.value v (subst (λ (x : ValueType). Fits (value_kind x) v) typed set) short.1))
+  put_is vs None v (fits, (t, typed, set)) short = ((vs, fits.0, refl, short.0.0), inr (t, typed, refl, column_value t v set short.1))
 
-key_is : (ts : Kinds) (vs : Vals) (string : List ℕ) → EachFits ts vs → key_of ts vs ≡ Ok string → IsKeyString ts string
-key_is ts vs string h is = key_by (nat_lt 1024 (length (key_string ts vs))) ts vs string refl h is
+  get_is : (vs : Vals) (cs : Option Vals) (text : List ℕ) → IsLine s (get_text (record { partition = vs; clustering = cs })) text → LineFits s (get_text (record { partition = vs; clustering = cs }))
+      → IsShort (spelled_line s number reader (get_text (record { partition = vs; clustering = cs }))) → IsLineOf (spelled_line s number reader (get_text (record { partition = vs; clustering = cs })))
+  get_is vs (Some cs) text is fits short = (((vs, fits.0, refl, short.0), inl (cs, fits.1, refl, short.1)), refl, refl)
+  get_is vs None text (n, rest, e, (word, key, w, (list, within, l, (t, some, static), f), g)) fits short = (((vs, fits.0, refl, short.0), inr (t, some, refl)), refl, refl)
 
-short_by : (t : Bool) (v value : List ℕ) → nat_lt 65535 (length v) ≡ t → ◌≡◌ {A = Result (List ℕ) LineCause} (if t then Err (ValueTooLong (length v)) else Ok v) (Ok value) → (v ≡ value) × (length v ≤ 65535)
-short_by true v value e is = cc
-short_by false v value e is = (let same : v ≡ value = cc in same, grind (arith, nat_tests))
+  said_is : (said : LineText) (text : List ℕ) → IsLine s said text → LineFits s said → IsShort (spelled_line s number reader said) → IsLineOf (spelled_line s number reader said)
+  said_is no_text text is fits short = tt
+  said_is (put_text p) text is fits short = (put_is p.key.partition p.key.clustering p.value fits short, refl)
+  said_is (get_text key) text is fits short = get_is key.partition key.clustering text is fits short
+  said_is sync_text text is fits short = tt
 
-column_value : (t : ValueType) (v : Val) → Fits (value_kind t) v → length (value_bytes v) ≤ 65535 → IsValueOf t (value_bytes v)
-column_value Text (number z) h l = absurd h
-column_value Text (bytes b) h l = (l, h.0)
-column_value Text (truth b) h l = absurd h
-column_value Text (values vs) h l = absurd h
-column_value Blob (number z) h l = absurd h
-column_value Blob (bytes b) h l = l
-column_value Blob (truth b) h l = absurd h
-column_value Blob (values vs) h l = absurd h
+  line_is : (text : List ℕ) (line : Line) → IsAcceptedLine s number reader text line → IsLineOf line
+  line_is text line (u, (said, is, fits, (same, short))) = subst IsLineOf (sym same) (said_is said text is fits short)
 
-value_is : (t : ValueType) (v : Val) (value : List ℕ) → Fits (value_kind t) v → short_value (value_bytes v) ≡ Ok value → IsValueOf t value
-value_is t v value h is = let p = short_by (nat_lt 65535 (length (value_bytes v))) (value_bytes v) value refl is in subst (IsValueOf t) p.0 (column_value t v h p.1)
+-- ---- numbers that ascend
 
--- ---- a put
+ascend_from : (n m : ℕ) (ns : List ℕ) → n ≤ m → NumbersAscend m ns → NumbersAscend n ns
+ascend_from n m [] l h = tt
+ascend_from n m (k ∷ ks) l h = ((let e = h.0 in omega arith), h.1)
 
-module _ (s : Columns) where
-  inside_is : (cs : Option Vals) (v : Val) (line : ℕ) (partition clustering value : List ℕ) → RowFits s cs → (t : ValueType) → IsTypeOf s cs t → Fits (value_kind t) v → row_key s.clustering cs ≡ Ok clustering
-      → short_value (value_bytes v) ≡ Ok value → IsKeyString s.partition partition → IsSchemaPut s (record { line = line; partition = partition; clustering = clustering; value = value })
-  inside_is (Some cs) v line partition clustering value h t is fits key short first =
-      (first, inl (key_is s.clustering cs clustering h key, value_is s.value v value (subst (λ (x : ValueType). Fits (value_kind x) v) is fits) short))
-  inside_is None v line partition clustering value h t is fits key short first =
-      (first, inr (t, is, (let same : [] ≡ clustering = cc in sym same), value_is t v value fits short))
+next_ascends : (n m : ℕ) (ns : List ℕ) → m ≡ n → NumbersAscend (n + 1) ns → NumbersAscend n (m ∷ ns)
+next_ascends n m ns e h = (omega arith, subst (λ k. NumbersAscend (k + 1) ns) (sym e) h)
 
-  put_is : (line : ℕ) (p : PutText) (put : Put) → PutFits s p → put_of s line p ≡ Ok put → IsSchemaPut s put
-  put_is line p put h is =
-      let one = steps (key_of s.partition p.partition) _ put is in
-      let two = steps (row_key s.clustering p.clustering) _ put one.2 in
-      let three = steps (short_value (value_bytes p.value)) _ put two.2 in
-      let same : record { line = line; partition = one.0; clustering = two.0; value = three.0 } ≡ put = cc in
-      subst (IsSchemaPut s) same
-      (inside_is p.clustering p.value line one.0 two.0 three.0 h.1 h.2.0 h.2.1 h.2.2 two.1 three.1 (key_is s.partition p.partition one.0 h.0 one.1))
+-- ---- all lines
 
-  -- the put of a line, where it has one
-  abbrev IsSome : Option Put → Type 0
-  IsSome None = Unit {0}
-  IsSome (Some put) = IsSchemaPut s put
+module _ (s : Columns) (readers : ℕ) where
+  -- what lines are that were accepted, from this number on
+  record FromLines (number count : ℕ) (lines : List Line) : Type 0 where
+    are : ArePuts s (puts_in lines)
+    ask : AreGets s (gets_in lines)
+    few : length (puts_in lines) ≤ count
+    few_gets : length (gets_in lines) ≤ count
+    puts_ascend : PutsAscend number (puts_in lines)
+    gets_ascend : GetsAscend number (gets_in lines)
 
-  said_is : (line : ℕ) (text : List ℕ) (said : Option PutText) (put : Option Put) → is_utf8 text ≡ true → line_of s text ≡ Ok said → some_put s line said ≡ Ok put → IsSome put
-  said_is line text None None u e h = tt
-  said_is line text None (Some put) u e h = cc
-  said_is line text (Some p) None u e h = let q = steps (put_of s line p) (λ put. Ok (Some put)) None h in let no : Ok (Some q.0) ≡ Ok None = q.2 in cc
-  said_is line text (Some p) (Some put) u e h =
-      let q = steps (put_of s line p) (λ put. Ok (Some put)) (Some put) h in
-      let some : Some q.0 ≡ Some put = (let k = q.2 in cc) in
-      let same : q.0 ≡ put = cc in
-      subst (IsSchemaPut s) same (put_is line p q.0 (line_fits s text (Some p) u e) q.1)
+  behind : (number reader count : ℕ) (line : Line) (lines : List Line) → IsLineOf s number reader line → FromLines (number + 1) count lines → FromLines number (suc count) (line ∷ lines)
+  behind number reader count no_line lines h f = record {
+    are = f.are;
+    ask = f.ask;
+    few = (let e = f.few in omega arith);
+    few_gets = (let e = f.few_gets in omega arith);
+    puts_ascend = ascend_from number (number + 1) (map (λ put. put.line) (puts_in lines)) (omega arith) f.puts_ascend;
+    gets_ascend = ascend_from number (number + 1) (map (λ get. get.line) (gets_in lines)) (omega arith) f.gets_ascend;
+  }
+  behind number reader count (put_line p) lines h f = record {
+    are = (h.0, f.are);
+    ask = f.ask;
+    few = (let e = f.few in omega arith);
+    few_gets = (let e = f.few_gets in omega arith);
+    puts_ascend = next_ascends number p.line (map (λ put. put.line) (puts_in lines)) h.1 f.puts_ascend;
+    gets_ascend = ascend_from number (number + 1) (map (λ get. get.line) (gets_in lines)) (omega arith) f.gets_ascend;
+  }
+  behind number reader count (get_line g) lines h f = record {
+    are = f.are;
+    ask = (h.0, f.ask);
+    few = (let e = f.few in omega arith);
+    few_gets = (let e = f.few_gets in omega arith);
+    puts_ascend = ascend_from number (number + 1) (map (λ put. put.line) (puts_in lines)) (omega arith) f.puts_ascend;
+    gets_ascend = next_ascends number g.line (map (λ get. get.line) (gets_in lines)) h.1 f.gets_ascend;
+  }
+  behind number reader count sync_line lines h f = record {
+    are = f.are;
+    ask = f.ask;
+    few = (let e = f.few in omega arith);
+    few_gets = (let e = f.few_gets in omega arith);
+    puts_ascend = ascend_from number (number + 1) (map (λ put. put.line) (puts_in lines)) (omega arith) f.puts_ascend;
+    gets_ascend = ascend_from number (number + 1) (map (λ get. get.line) (gets_in lines)) (omega arith) f.gets_ascend;
+  }
 
-  line_by : (t : Bool) (line : ℕ) (text : List ℕ) (put : Option Put) → is_utf8 text ≡ t → (if t then (line_of s text >>= λ said. some_put s line said) else Err NotUtf8) ≡ Ok put → IsSome put
-  line_by true line text put u h = let q = steps (line_of s text) (λ said. some_put s line said) put h in said_is line text q.0 put u q.1 q.2
-  line_by false line text put u h = absurd (let no : ◌≡◌ {A = Result (Option Put) LineCause} (Err NotUtf8) (Ok put) = h in cc)
+  from_lines : (number gets : ℕ) (texts : List (List ℕ)) (lines : List Line) → AreAcceptedLines s readers number gets texts lines → FromLines number (length texts) lines
+  from_lines number gets [] lines h = subst (FromLines number 0) (sym h) (record { are = tt; ask = tt; few = omega arith; few_gets = omega arith; puts_ascend = tt; gets_ascend = tt })
+  from_lines number gets (text ∷ texts) lines (line, rest, one, others, same) =
+      subst (FromLines number (suc (length texts))) (sym same)
+      (behind number (gets % readers) (length texts) line rest (line_is s number (gets % readers) text line one) (from_lines (number + 1) (gets_after line gets) texts rest others))
 
-  line_is : (line : ℕ) (text : List ℕ) (put : Option Put) → put_on s line text ≡ Ok put → IsSome put
-  line_is line text put h = line_by (is_utf8 text) line text put refl h
+  -- gets go to the readers in turn
+  dealt_by : (number gets : ℕ) (line : Line) (lines : List Line) → 1 ≤ readers → IsLineOf s number (gets % readers) line → AreDealt readers (gets_after line gets) (gets_in lines) → AreDealt readers gets (gets_in (line ∷ lines))
+  dealt_by number gets no_line lines some h f = f
+  dealt_by number gets (put_line p) lines some h f = f
+  dealt_by number gets (get_line g) lines some h f = (h.2, subst (λ n. n < readers) (sym h.2) (mod_below gets readers some), f)
+  dealt_by number gets sync_line lines some h f = f
 
-  -- all puts of lines, at most one for each
-  record FromLines (count : ℕ) (puts : List Put) : Type 0 where
-    are : ArePuts s puts
-    few : length puts ≤ count
+  dealt_from : (number gets : ℕ) (texts : List (List ℕ)) (lines : List Line) → 1 ≤ readers → AreAcceptedLines s readers number gets texts lines → AreDealt readers gets (gets_in lines)
+  dealt_from number gets [] lines some h = subst (λ (l : List Line). AreDealt readers gets (gets_in l)) (sym h) tt
+  dealt_from number gets (text ∷ texts) lines some (line, rest, one, others, same) =
+      subst (λ (l : List Line). AreDealt readers gets (gets_in l)) (sym same)
+      (dealt_by number gets line rest some (line_is s number (gets % readers) text line one) (dealt_from (number + 1) (gets_after line gets) texts rest some others))
 
-  front_is : (count : ℕ) (put : Option Put) (puts : List Put) → IsSome put → FromLines count puts → FromLines (suc count) (in_front put puts)
-  front_is count None puts h f = record { are = f.are; few = (let e = f.few in omega arith) }
-  front_is count (Some put) puts h f = record { are = (h, f.are); few = (let e = f.few in omega arith) }
+-- ---- in each batch
 
-  with_rest_is : (line count : ℕ) (text : List ℕ) (first : Result (Option Put) LineCause) (rest : Result (List Put) ScriptError) (puts : List Put) → put_on s line text ≡ first
-      → ((ps : List Put) → rest ≡ Ok ps → FromLines count ps) → with_rest (at_line line first) rest ≡ Ok puts → FromLines (suc count) puts
-  with_rest_is line count text (Ok put) (Ok ps) puts is rec h = let same : in_front put ps ≡ puts = cc in subst (FromLines (suc count)) same (front_is count put ps (line_is line text put is) (rec ps refl))
-  with_rest_is line count text (Ok put) (Err e) puts is rec h = absurd (let no : ◌≡◌ {A = Result (List Put) ScriptError} (Err e) (Ok puts) = h in cc)
-  with_rest_is line count text (Err cause) rest puts is rec h = absurd (let no : ◌≡◌ {A = Result (List Put) ScriptError} (Err (BadLine line cause)) (Ok puts) = h in cc)
+puts_part : (n : ℕ) (front back : List Put) → PutsAscend n (front ++ back) → PutsAscend n front × PutsAscend n back
+puts_part n [] back h = (tt, h)
+puts_part n (put ∷ front) back h =
+    let p = puts_part (put.line + 1) front back h.1 in
+    ((h.0, p.0), ascend_from n (put.line + 1) (map (λ put. put.line) back) (let e = h.0 in omega arith) p.1)
 
-  from_lines : (line : ℕ) (texts : List (List ℕ)) (puts : List Put) → puts_from s line texts ≡ Ok puts → FromLines (length texts) puts
-  from_lines line [] puts h = let same : [] ≡ puts = cc in subst (FromLines 0) same (record { are = tt; few = omega arith })
-  from_lines line (text ∷ texts) puts h =
-      with_rest_is line (length texts) text (put_on s line text) (puts_from s (line + 1) texts) puts refl (λ ps e. from_lines (line + 1) texts ps e) h
+gets_part : (n : ℕ) (front back : List Get) → GetsAscend n (front ++ back) → GetsAscend n front × GetsAscend n back
+gets_part n [] back h = (tt, h)
+gets_part n (get ∷ front) back h =
+    let p = gets_part (get.line + 1) front back h.1 in
+    ((h.0, p.0), ascend_from n (get.line + 1) (map (λ get. get.line) back) (let e = h.0 in omega arith) p.1)
 
-  of_batch : (texts : List (List ℕ)) (read : Result (List Put) ScriptError) (script : Script) → length texts ≤ 1000000 → puts_from s 1 texts ≡ read → one_batch read ≡ Ok script → IsAccepted s script
-  of_batch texts (Ok puts) script few is h =
-      let whole : Script = record { batches = record { puts = puts; gets = [] } ∷ []; puts = length puts } in
-      let same : whole ≡ script = cc in
-      let from = from_lines 1 texts puts is in
-      let least = from.few in
-      let all : puts_of whole.batches ≡ puts = append-nil puts in
-      subst (IsAccepted s) same
-      (record {
-        are = subst (ArePuts s) (sym all) from.are;
-        count = ap length (sym all);
-        few = subst (λ (ps : List Put). length ps ≤ 1000000) (sym all) (omega arith);
-      })
-  of_batch texts (Err e) script few is h = absurd (let no : ◌≡◌ {A = Result Script ScriptError} (Err e) (Ok script) = h in cc)
+each_batch : (batches : List Batch) → PutsAscend 1 (puts_of batches) → GetsAscend 1 (gets_of batches) → EachAscends batches
+each_batch [] h k = tt
+each_batch (batch ∷ batches) h k =
+    let p = puts_part 1 batch.puts (puts_of batches) h in
+    let g = gets_part 1 batch.gets (gets_of batches) k in
+    (p.0, g.0, each_batch batches p.1 g.1)
 
-  script_by : (t u : Bool) (texts : List (List ℕ)) (script : Script) → nat_lt 1000000 (length texts) ≡ u
-      → (if t || u then Err TooLarge else one_batch (puts_from s 1 texts)) ≡ Ok script → IsAccepted s script
-  script_by true u texts script e h = absurd (let no : ◌≡◌ {A = Result Script ScriptError} (Err TooLarge) (Ok script) = h in cc)
-  script_by false true texts script e h = absurd (let no : ◌≡◌ {A = Result Script ScriptError} (Err TooLarge) (Ok script) = h in cc)
-  script_by false false texts script e h = of_batch texts (puts_from s 1 texts) script (grind (arith, nat_tests)) refl h
+-- ---- a script
 
-  -- an accepted script holds puts of the schema
-  pub accepted_script : (text : List ℕ) (script : Script) → script_of s text ≡ Ok script → IsAccepted s script
-  accepted_script text script h = script_by (nat_lt 67108864 (length text)) (nat_lt 1000000 (length (lines_of text))) (lines_of text) script refl h
+of_lines : (s : Columns) (readers : ℕ) (bytes : List ℕ) (lines : List Line) → 1 ≤ readers → (IsTooLarge bytes → ⊥) → AreAcceptedLines s readers 1 0 (lines_of bytes) lines → IsAccepted s readers (script_with lines)
+of_lines s readers bytes lines some few_enough h =
+    let from = from_lines s readers 1 0 (lines_of bytes) lines h in
+    let puts : puts_in lines ≡ puts_of (batches_of lines) = sym (puts_kept lines) in
+    let gets : gets_in lines ≡ gets_of (batches_of lines) = sym (gets_kept lines) in
+    let most = few_lines s readers bytes few_enough in
+    let ascend = subst (PutsAscend 1) puts from.puts_ascend in
+    let asked = subst (GetsAscend 1) gets from.gets_ascend in
+    record {
+      are = subst (ArePuts s) puts from.are;
+      ask = subst (AreGets s) gets from.ask;
+      count = refl;
+      few = subst (λ (l : List Put). length l ≤ most_lines) puts (let e = from.few in omega arith);
+      puts_ascend = ascend;
+      gets_ascend = asked;
+      each = each_batch (batches_of lines) ascend asked;
+      few_gets = subst (λ (l : List Get). length l ≤ most_lines) gets (let e = from.few_gets in omega arith);
+      dealt = subst (AreDealt readers 0) gets (dealt_from s readers 1 0 (lines_of bytes) lines some h);
+    }
+
+-- an accepted script holds puts and gets of the schema
+pub accepted_script : (s : Columns) (readers : ℕ) (bytes : List ℕ) (script : Script) → 1 ≤ readers → script_of s readers bytes ≡ Ok script → IsAccepted s readers script
+accepted_script s readers bytes script some h =
+    let is : IsScript s readers bytes (Ok script) = subst (IsScript s readers bytes) h (computed s readers bytes) in
+    subst (IsAccepted s readers) (sym is.1.2) (of_lines s readers bytes is.1.0 some is.0 is.1.1)
+
+-- its puts are of the schema, for any number of readers
+pub accepted_puts : (s : Columns) (readers : ℕ) (bytes : List ℕ) (script : Script) → script_of s readers bytes ≡ Ok script → ArePuts s (puts_of script.batches)
+accepted_puts s readers bytes script h =
+    let is : IsScript s readers bytes (Ok script) = subst (IsScript s readers bytes) h (computed s readers bytes) in
+    let from = from_lines s readers 1 0 (lines_of bytes) is.1.0 is.1.1 in
+    subst (λ (x : Script). ArePuts s (puts_of x.batches)) (sym is.1.2) (subst (ArePuts s) (sym (puts_kept is.1.0)) from.are)

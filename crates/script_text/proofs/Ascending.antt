@@ -1,6 +1,6 @@
 -- The entries of the map of an accepted script ascend by their typed keys.
-use Rattle.std.proofs.Common.{◌≡◌, ℕ, Bool, true, false, ◌&&◌, List, [], ◌∷◌, ◌++◌, Option, None, Some, Ok, refl, sym, ◌∙◌, ap, subst, inl, inr}
-use Rattle.std.proofs.lemmas.List.{append-nil, nil_from_length}
+use Rattle.std.proofs.Common.{◌≡◌, ℕ, Bool, true, false, ◌&&◌, List, [], ◌∷◌, ◌++◌, None, Some, Ok, refl, sym, ◌∙◌, ap, subst, inl, inr}
+use Rattle.std.proofs.lemmas.List.{nil_from_length}
 use Rattle.std.specs.declared.cmp.Ordering.{Ordering}
 use Rattle.std.specs.declared.cmp.Ordering.TheVariants.{Less, Equal, Greater}
 use Rattle.std.specs.Prelude.{T}
@@ -15,9 +15,9 @@ use Rattle.byte_comparable.specs.Order.{Key, key_order, string_of_key}
 use Rattle.byte_comparable.proofs.Kept.{keys_kept}
 use Rattle.script_text.specs.Puts.{Put}
 use Rattle.script_text.specs.declared.script.Script.{Script}
-use Rattle.script_text.specs.Script.{entry_of_put, entries_of, puts_of, script_of}
-use Rattle.script_text.specs.Laws.{IsKeyString, IsRowPut, IsStaticPut, IsSchemaPut, ArePuts, HasKey, AreOfKeys, KeysAscend}
-use Rattle.script_text.proofs.Accepted.{accepted_script}
+use Rattle.script_text.specs.Script.{entries_of, puts_of, script_of}
+use Rattle.script_text.specs.Laws.{IsSchemaPut, ArePuts, HasKey, AreOfKeys, KeysAscend}
+use Rattle.script_text.proofs.Accepted.{accepted_puts}
 
 module _ (s : Columns) where
   -- ---- each entry has a key
@@ -92,9 +92,9 @@ module _ (s : Columns) where
       let first = both_hold (is_lt (string_cmp e.0 f.0)) (below_all string_cmp e.0 es) parts.0 in
       (less e.0 f.0 h.0.0 h.1.0.0 h.0.1 h.1.0.1 (is_less (string_cmp e.0 f.0) first.0), ascend (f ∷ es) h.1 parts.1)
 
-pub entries_ascend : (s : Columns) (bytes : List ℕ) (script : Script) → script_of s bytes ≡ Ok script
+pub entries_ascend : (s : Columns) (readers : ℕ) (bytes : List ℕ) (script : Script) → script_of s readers bytes ≡ Ok script
     → (keys : List Key) × AreOfKeys s keys (map.entries (table_of (entries_of (puts_of script.batches)))) × KeysAscend s keys
-entries_ascend s bytes script h =
+entries_ascend s readers bytes script h =
     let es = map.entries (table_of (entries_of (puts_of script.batches))) in
-    let keyed = table_keyed s (puts_of script.batches) (accepted_script s bytes script h).are in
+    let keyed = table_keyed s (puts_of script.batches) (accepted_puts s readers bytes script h) in
     (keys_of s es keyed, of_keys s es keyed, ascend s es keyed (map.entries_sorted (table_of (entries_of (puts_of script.batches)))))

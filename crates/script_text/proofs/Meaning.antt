@@ -1,27 +1,25 @@
 -- What is computed of bytes is what they say as a script.
-use Rattle.std.proofs.Common.{◌≡◌, ℕ, ◌+◌, ◌≤◌, ◌<◌, Bool, true, false, ◌||◌, List, [], ◌∷◌, length, Option, Some, None, Result, Ok, Err, refl, sym, ◌∙◌, ap, arith, subst, inl, inr}
-use Rattle.std.specs.Prelude.{◌⊎◌, if◌then◌else◌, nat_lt}
+use Rattle.std.proofs.Common.{◌≡◌, ℕ, ◌+◌, ◌%◌, ◌≤◌, ◌<◌, Bool, true, false, ◌||◌, List, [], ◌∷◌, length, Result, Ok, Err, refl, sym, ◌∙◌, ap, arith, subst, inl, inr}
+use Rattle.std.specs.Prelude.{⊤, if◌then◌else◌, nat_lt}
 use Rattle.std.specs.Str.{is_utf8}
 use Rattle.std.proofs.lemmas.Bool.Decides.{nat_tests}
-use Rattle.key_types.specs.Kinds.{Vals}
 use Rattle.key_types.specs.Columns.{Columns, longest_value}
-use Rattle.byte_comparable.specs.Encoding.{key_string}
 use Rattle.byte_comparable.specs.Strings.{longest_string}
-use Rattle.byte_comparable.specs.Order.{within_string}
-use Rattle.script_text.specs.Puts.{Put}
+use Rattle.script_text.specs.Puts.{Put, Get}
 use Rattle.script_text.specs.declared.script.Script.{Script}
 use Rattle.script_text.specs.declared.script.LineCause.{LineCause}
 use Rattle.script_text.specs.declared.script.LineCause.TheVariants.{NotUtf8, BadText, OutOfRange, KeyTooLong, ValueTooLong}
 use Rattle.script_text.specs.declared.script.ScriptError.{ScriptError}
 use Rattle.script_text.specs.declared.script.ScriptError.TheVariants.{BadLine, TooLarge, NoMemory}
 use Rattle.script_text.specs.Lines.{lines_of}
-use Rattle.script_text.specs.Grammar.{PutText, IsLine, PutFits, LineFits}
+use Rattle.script_text.specs.Grammar.{LineText, IsLine, LineFits}
 use Rattle.script_text.specs.Reading.{line_of}
-use Rattle.script_text.specs.Script.{◌>>=◌, short_key, row_key, short_value, value_bytes, put_of, some_put, put_on, at_line, in_front, with_rest, puts_from, one_batch, most_bytes, most_lines, script_of, AnswersScript}
+use Rattle.script_text.specs.Script.{◌>>=◌, short_line, line_on, at_line, lines_from, script_by, most_bytes, most_lines, script_of, AnswersScript}
 use Rattle.script_text.specs.Laws.{LineReads}
-use Rattle.script_text.specs.Meaning.{spelled_put, IsShort, IsAcceptedLine, IsRefusedLine, AreAcceptedLines, IsFirstRefused, IsTooLarge, script_with, IsScript, ReadsScript, ScriptMeaning}
+use Rattle.script_text.specs.Meaning.{IsShort, HasLongKey, HasLongValue, IsAcceptedLine, IsRefusedLine, AreAcceptedLines, IsFirstRefused, IsTooLarge, IsScript, ReadsScript, ScriptMeaning}
 use Rattle.script_text.proofs.Told.{line_reads}
 use Rattle.script_text.proofs.Passed.{line_all}
+use Rattle.script_text.specs.Spelled.{Line, no_line, put_line, get_line, sync_line, spelled_line, gets_after}
 
 -- ---- lengths
 
@@ -34,179 +32,178 @@ within a b e = grind (arith, nat_tests)
 not_over : (a b : ℕ) → b ≤ a → nat_lt a b ≡ false
 not_over a b h = grind (arith, nat_tests)
 
+-- ---- what is spelled_line, judged by its lengths
+
+abbrev Judged : Line → Result Line LineCause → Type 0
+Judged x (Ok line) = (line ≡ x) × IsShort x
+Judged x (Err NotUtf8) = ⊥
+Judged x (Err (BadText at)) = ⊥
+Judged x (Err (OutOfRange at)) = ⊥
+Judged x (Err (KeyTooLong n)) = HasLongKey x n
+Judged x (Err (ValueTooLong n)) = HasLongValue x n
+
+abbrev key_by : Bool → ℕ → Result ⊤ LineCause
+key_by t n = if t then Err (KeyTooLong n) else Ok tt
+
+abbrev value_by : Bool → ℕ → Result ⊤ LineCause
+value_by t n = if t then Err (ValueTooLong n) else Ok tt
+
+put_judged : (p : Put) (t u w : Bool) → nat_lt longest_string (length p.partition) ≡ t → nat_lt longest_string (length p.clustering) ≡ u → nat_lt longest_value (length p.value) ≡ w
+    → Judged (put_line p) ((key_by t (length p.partition) >>= λ _. key_by u (length p.clustering)) >>= λ _. value_by w (length p.value) >>= λ _. Ok (put_line p))
+put_judged p true u w e f g = inl (over longest_string (length p.partition) e, refl)
+put_judged p false true w e f g = inr (within longest_string (length p.partition) e, over longest_string (length p.clustering) f, refl)
+put_judged p false false true e f g =
+    ((within longest_string (length p.partition) e, within longest_string (length p.clustering) f), over longest_value (length p.value) g, refl)
+put_judged p false false false e f g =
+    (refl, ((within longest_string (length p.partition) e, within longest_string (length p.clustering) f), within longest_value (length p.value) g))
+
+get_judged : (g : Get) (t u : Bool) → nat_lt longest_string (length g.partition) ≡ t → nat_lt longest_string (length g.clustering) ≡ u
+    → Judged (get_line g) ((key_by t (length g.partition) >>= λ _. key_by u (length g.clustering)) >>= λ _. Ok (get_line g))
+get_judged g true u e f = inl (over longest_string (length g.partition) e, refl)
+get_judged g false true e f = inr (within longest_string (length g.partition) e, over longest_string (length g.clustering) f, refl)
+get_judged g false false e f = (refl, (within longest_string (length g.partition) e, within longest_string (length g.clustering) f))
+
+judged : (x : Line) → Judged x (short_line x)
+judged no_line = (refl, tt)
+judged (put_line p) = put_judged p (nat_lt longest_string (length p.partition)) (nat_lt longest_string (length p.clustering)) (nat_lt longest_value (length p.value)) refl refl refl
+judged (get_line g) = get_judged g (nat_lt longest_string (length g.partition)) (nat_lt longest_string (length g.clustering)) refl refl
+judged sync_line = (refl, tt)
+
+short_accepted : (x : Line) → IsShort x → short_line x ≡ Ok x
+short_accepted no_line h = refl
+short_accepted (put_line p) h = rw (
+  not_over longest_string (length p.partition) h.0.0,
+  not_over longest_string (length p.clustering) h.0.1,
+  not_over longest_value (length p.value) h.1,
+) refl
+short_accepted (get_line g) h = rw (not_over longest_string (length g.partition) h.0, not_over longest_string (length g.clustering) h.1) refl
+short_accepted sync_line h = refl
+
 -- ---- a line
 
-module _ (s : Columns) (number : ℕ) (line : List ℕ) where
-  abbrev LineTold : Result (Option Put) LineCause → Type 0
-  LineTold (Ok put) = IsAcceptedLine s number line put
-  LineTold (Err cause) = IsRefusedLine s number line cause
+module _ (s : Columns) (number reader : ℕ) (text : List ℕ) where
+  abbrev LineTold : Result Line LineCause → Type 0
+  LineTold (Ok line) = IsAcceptedLine s number reader text line
+  LineTold (Err cause) = IsRefusedLine s number reader text cause
 
-  module _ (utf8 : is_utf8 line ≡ true) (p : PutText) (is : IsLine s (Some p) line) (fits : PutFits s p) where
-    abbrev made : List ℕ → List ℕ → Put
-    made clustering value = record { line = number; partition = key_string s.partition p.partition; clustering = clustering; value = value }
+  of_judged : (said : LineText) → IsLine s said text → LineFits s said → is_utf8 text ≡ true → (r : Result Line LineCause) → Judged (spelled_line s number reader said) r → LineTold r
+  of_judged said is fits u (Ok line) h = (u, (said, is, fits, h))
+  of_judged said is fits u (Err NotUtf8) h = absurd h
+  of_judged said is fits u (Err (BadText at)) h = absurd h
+  of_judged said is fits u (Err (OutOfRange at)) h = absurd h
+  of_judged said is fits u (Err (KeyTooLong n)) h = (u, (said, is, fits, h))
+  of_judged said is fits u (Err (ValueTooLong n)) h = (u, (said, is, fits, h))
 
-    abbrev behind_row : List ℕ → Result (List ℕ) LineCause → Result (Option Put) LineCause
-    behind_row clustering value = (value >>= λ v. Ok (made clustering v)) >>= λ put. Ok (Some put)
-
-    abbrev behind_partition : Result (List ℕ) LineCause → Result (Option Put) LineCause
-    behind_partition row = (row >>= λ clustering. short_value (value_bytes p.value) >>= λ v. Ok (made clustering v)) >>= λ put. Ok (Some put)
-
-    value_told : (w : Bool) (clustering : List ℕ) → nat_lt longest_value (length (value_bytes p.value)) ≡ w → length (key_string s.partition p.partition) ≤ longest_string → length clustering ≤ longest_string
-        → (spelled_put s number p).clustering ≡ clustering → LineTold (behind_row clustering (if w then Err (ValueTooLong (length (value_bytes p.value))) else Ok (value_bytes p.value)))
-    value_told true clustering e h k same =
-        (utf8, (p, is, fits, (h, subst (λ (c : List ℕ). length c ≤ longest_string) (sym same) k, over longest_value (length (value_bytes p.value)) e, refl)))
-    value_told false clustering e h k same = (
-      utf8,
-      (
-        p,
-        is,
-        fits,
-        (
-          ap (λ (c : List ℕ). made c (value_bytes p.value)) (sym same),
-          (h, subst (λ (c : List ℕ). length c ≤ longest_string) (sym same) k, within longest_value (length (value_bytes p.value)) e),
-        ),
-      ),
-    )
-
-    row_by : (t : Bool) (cs : Vals) → nat_lt longest_string (length (key_string s.clustering cs)) ≡ t → (spelled_put s number p).clustering ≡ key_string s.clustering cs → length (key_string s.partition p.partition) ≤ longest_string
-        → LineTold (behind_partition (if t then Err (KeyTooLong (length (key_string s.clustering cs))) else Ok (key_string s.clustering cs)))
-    row_by true cs e same h =
-        (utf8, (p, is, fits, inr (h, subst (λ (c : List ℕ). longest_string < length c) (sym same) (over longest_string (length (key_string s.clustering cs)) e), ap length (sym same))))
-    row_by false cs e same h =
-        value_told (nat_lt longest_value (length (value_bytes p.value))) (key_string s.clustering cs) refl h (within longest_string (length (key_string s.clustering cs)) e) same
-
-    row_told : (cs : Option Vals) → p.clustering ≡ cs → length (key_string s.partition p.partition) ≤ longest_string → LineTold (behind_partition (row_key s.clustering cs))
-    row_told None same h = value_told (nat_lt longest_value (length (value_bytes p.value))) [] refl h (omega arith) (ap (within_string s.clustering) same)
-    row_told (Some cs) same h = row_by (nat_lt longest_string (length (key_string s.clustering cs))) cs refl (ap (within_string s.clustering) same) h
-
-    key_told : (t : Bool) → nat_lt longest_string (length (key_string s.partition p.partition)) ≡ t
-        → LineTold (((if t then Err (KeyTooLong (length (key_string s.partition p.partition))) else Ok (key_string s.partition p.partition)) >>= λ partition.
-        row_key s.clustering p.clustering >>= λ clustering. short_value (value_bytes p.value) >>= λ v. Ok (record { line = number; partition = partition; clustering = clustering; value = v })) >>= λ put. Ok (Some put))
-    key_told true e = (utf8, (p, is, fits, inl (over longest_string (length (key_string s.partition p.partition)) e, refl)))
-    key_told false e = row_told p.clustering refl (within longest_string (length (key_string s.partition p.partition)) e)
-
-  said_told : (c : Result (Option PutText) LineCause) → LineReads s line c → is_utf8 line ≡ true → LineTold (c >>= λ said. some_put s number said)
-  said_told (Ok None) r u = (u, r.0)
-  said_told (Ok (Some p)) r u = key_told u p r.0 r.1 (nat_lt longest_string (length (key_string s.partition p.partition))) refl
+  said_told : (c : Result LineText LineCause) → LineReads s text c → is_utf8 text ≡ true → LineTold (c >>= λ said. short_line (spelled_line s number reader said))
+  said_told (Ok said) r u = of_judged said r.0 r.1 u (short_line (spelled_line s number reader said)) (judged (spelled_line s number reader said))
   said_told (Err NotUtf8) r u = absurd r
   said_told (Err (BadText at)) r u = (u, r.0, r.1)
   said_told (Err (OutOfRange at)) r u = (u, r)
   said_told (Err (KeyTooLong n)) r u = absurd r
   said_told (Err (ValueTooLong n)) r u = absurd r
 
-  told_by : (t : Bool) → is_utf8 line ≡ t → LineTold (if t then (line_of s line >>= λ said. some_put s number said) else Err NotUtf8)
-  told_by true u = said_told (line_of s line) (line_reads s line u) u
+  told_by : (t : Bool) → is_utf8 text ≡ t → LineTold (if t then (line_of s text >>= λ said. short_line (spelled_line s number reader said)) else Err NotUtf8)
+  told_by true u = said_told (line_of s text) (line_reads s text u) u
   told_by false u = u
 
-  line_told : LineTold (put_on s number line)
-  line_told = told_by (is_utf8 line) refl
+  line_told : LineTold (line_on s number reader text)
+  line_told = told_by (is_utf8 text) refl
 
-  -- ---- and back
-
-  short_is : (xs : List ℕ) → length xs ≤ longest_string → short_key xs ≡ Ok xs
-  short_is xs h = ap (λ (t : Bool). if t then Err (KeyTooLong (length xs)) else Ok xs) (not_over longest_string (length xs) h)
-
-  row_is : (cs : Option Vals) → length (within_string s.clustering cs) ≤ longest_string → row_key s.clustering cs ≡ Ok (within_string s.clustering cs)
-  row_is None h = refl
-  row_is (Some cs) h = short_is (key_string s.clustering cs) h
-
-  value_is : (v : List ℕ) → length v ≤ longest_value → short_value v ≡ Ok v
-  value_is v h = ap (λ (t : Bool). if t then Err (ValueTooLong (length v)) else Ok v) (not_over longest_value (length v) h)
-
-  abbrev made4 : List ℕ → List ℕ → List ℕ → Put
-  made4 partition clustering value = record { line = number; partition = partition; clustering = clustering; value = value }
-
-  put_is : (p : PutText) → IsShort (spelled_put s number p) → put_of s number p ≡ Ok (spelled_put s number p)
-  put_is p (h, k, l) =
-      ap (λ (r : Result (List ℕ) LineCause). r >>= λ partition. row_key s.clustering p.clustering >>= λ clustering. short_value (value_bytes p.value) >>= λ v. Ok (made4 partition clustering v)) (short_is (key_string s.partition p.partition) h)
-      ∙ ap (λ (r : Result (List ℕ) LineCause). r >>= λ clustering. short_value (value_bytes p.value) >>= λ v. Ok (made4 (key_string s.partition p.partition) clustering v)) (row_is p.clustering k)
-      ∙ ap (λ (r : Result (List ℕ) LineCause). r >>= λ v. Ok (made4 (key_string s.partition p.partition) (within_string s.clustering p.clustering) v)) (value_is (value_bytes p.value) l)
-
-  said_is : (said : Option PutText) (put : Option Put) → is_utf8 line ≡ true → IsLine s said line → LineFits s said → some_put s number said ≡ Ok put → put_on s number line ≡ Ok put
-  said_is said put u is fits h =
-      ap (λ (t : Bool). if t then (line_of s line >>= λ x. some_put s number x) else Err NotUtf8) u
-      ∙ ap (λ (r : Result (Option PutText) LineCause). r >>= λ x. some_put s number x) (line_all s said line is fits) ∙ h
-
-  accepted_line : (put : Option Put) → IsAcceptedLine s number line put → put_on s number line ≡ Ok put
-  accepted_line None (u, is) = said_is None None u is tt refl
-  accepted_line (Some put) (u, (p, is, fits, (same, short))) =
-      said_is (Some p) (Some put) u is fits (ap (λ (r : Result Put LineCause). r >>= λ x. Ok (Some x)) (put_is p short) ∙ ap (λ (x : Put). Ok (Some x)) (sym same))
+  -- an accepted line is computed so
+  accepted_line : (line : Line) → IsAcceptedLine s number reader text line → line_on s number reader text ≡ Ok line
+  accepted_line line (u, (said, is, fits, (same, short))) =
+      ap (λ t. if t then (line_of s text >>= λ x. short_line (spelled_line s number reader x)) else Err NotUtf8) u
+      ∙ ap (λ r. r >>= λ x. short_line (spelled_line s number reader x)) (line_all s said text is fits) ∙ short_accepted (spelled_line s number reader said) short ∙ ap Ok (sym same)
 
 -- ---- all lines
 
-module _ (s : Columns) where
-  abbrev LinesTold : ℕ → List (List ℕ) → Result (List Put) ScriptError → Type 0
-  LinesTold number texts (Ok puts) = AreAcceptedLines s number texts puts
-  LinesTold number texts (Err (BadLine bad cause)) = IsFirstRefused s number texts bad cause
-  LinesTold number texts (Err TooLarge) = ⊥
-  LinesTold number texts (Err NoMemory) = ⊥
+module _ (s : Columns) (readers : ℕ) where
+  abbrev LinesTold : ℕ → ℕ → List (List ℕ) → Result (List Line) ScriptError → Type 0
+  LinesTold number gets texts (Ok lines) = AreAcceptedLines s readers number gets texts lines
+  LinesTold number gets texts (Err (BadLine bad cause)) = IsFirstRefused s readers number gets texts bad cause
+  LinesTold number gets texts (Err TooLarge) = ⊥
+  LinesTold number gets texts (Err NoMemory) = ⊥
 
-  joined : (number : ℕ) (text : List ℕ) (texts : List (List ℕ)) (first : Result (Option Put) LineCause) (rest : Result (List Put) ScriptError)
-      → LineTold s number text first → LinesTold (number + 1) texts rest → LinesTold number (text ∷ texts) (with_rest (at_line number first) rest)
-  joined number text texts (Err cause) rest h hs = inl (refl, h)
-  joined number text texts (Ok put) (Ok puts) h hs = (put, puts, h, hs, refl)
-  joined number text texts (Ok put) (Err (BadLine bad cause)) h hs = inr (put, h, hs)
-  joined number text texts (Ok put) (Err TooLarge) h hs = hs
-  joined number text texts (Ok put) (Err NoMemory) h hs = hs
+  behind : (number gets : ℕ) (text : List ℕ) (texts : List (List ℕ)) (line : Line) (rest : Result (List Line) ScriptError) → IsAcceptedLine s number (gets % readers) text line → LinesTold (number + 1) (gets_after line gets) texts rest
+      → LinesTold number gets (text ∷ texts) (rest >>= λ lines. Ok (line ∷ lines))
+  behind number gets text texts line (Ok lines) h hs = (line, lines, h, hs, refl)
+  behind number gets text texts line (Err (BadLine bad cause)) h hs = inr (line, h, hs)
+  behind number gets text texts line (Err TooLarge) h hs = hs
+  behind number gets text texts line (Err NoMemory) h hs = hs
 
-  lines_told : (number : ℕ) (texts : List (List ℕ)) → LinesTold number texts (puts_from s number texts)
-  lines_told number [] = refl
-  lines_told number (text ∷ texts) = joined number text texts (put_on s number text) (puts_from s (number + 1) texts) (line_told s number text) (lines_told (number + 1) texts)
+  joined : (number gets : ℕ) (text : List ℕ) (texts : List (List ℕ)) (first : Result Line LineCause) → LineTold s number (gets % readers) text first
+      → ((line : Line) → LinesTold (number + 1) (gets_after line gets) texts (lines_from s readers (number + 1) (gets_after line gets) texts))
+      → LinesTold number gets (text ∷ texts) (at_line number first >>= λ line. lines_from s readers (number + 1) (gets_after line gets) texts >>= λ lines. Ok (line ∷ lines))
+  joined number gets text texts (Err cause) h rest = inl (refl, h)
+  joined number gets text texts (Ok line) h rest = behind number gets text texts line (lines_from s readers (number + 1) (gets_after line gets) texts) h (rest line)
 
-  accepted_lines : (number : ℕ) (texts : List (List ℕ)) (puts : List Put) → AreAcceptedLines s number texts puts → puts_from s number texts ≡ Ok puts
-  accepted_lines number [] puts h = ap Ok (sym h)
-  accepted_lines number (text ∷ texts) puts (put, rest, one, others, same) =
-      ap (λ (r : Result (Option Put) LineCause). with_rest (at_line number r) (puts_from s (number + 1) texts)) (accepted_line s number text put one)
-      ∙ ap (λ (r : Result (List Put) ScriptError). with_rest (Ok put) r) (accepted_lines (number + 1) texts rest others) ∙ ap Ok (sym same)
+  lines_told : (number gets : ℕ) (texts : List (List ℕ)) → LinesTold number gets texts (lines_from s readers number gets texts)
+  lines_told number gets [] = refl
+  lines_told number gets (text ∷ texts) =
+      joined number gets text texts (line_on s number (gets % readers) text) (line_told s number (gets % readers) text) (λ line. lines_told (number + 1) (gets_after line gets) texts)
+
+  accepted_lines : (number gets : ℕ) (texts : List (List ℕ)) (lines : List Line) → AreAcceptedLines s readers number gets texts lines → lines_from s readers number gets texts ≡ Ok lines
+  accepted_lines number gets [] lines h = ap Ok (sym h)
+  accepted_lines number gets (text ∷ texts) lines (line, rest, one, others, same) =
+      ap (λ (r : Result Line LineCause). at_line number r >>= λ x. lines_from s readers (number + 1) (gets_after x gets) texts >>= λ xs. Ok (x ∷ xs)) (accepted_line s number (gets % readers) text line one)
+      ∙ ap (λ (r : Result (List Line) ScriptError). r >>= λ xs. Ok (line ∷ xs)) (accepted_lines (number + 1) (gets_after line gets) texts rest others) ∙ ap Ok (sym same)
 
   -- ---- a script
 
   module _ (bytes : List ℕ) where
-    abbrev script_by : Bool → Bool → Result Script ScriptError
-    script_by t u = if t || u then Err TooLarge else one_batch (puts_from s 1 (lines_of bytes))
+    abbrev whole_by : Bool → Bool → Result Script ScriptError
+    whole_by t u = if t || u then Err TooLarge else script_by (lines_from s readers 1 0 (lines_of bytes))
 
-    batch : (read : Result (List Put) ScriptError) → LinesTold 1 (lines_of bytes) read → (IsTooLarge bytes → ⊥) → IsScript s bytes (one_batch read)
-    batch (Ok puts) h few_enough = (few_enough, puts, h, refl)
-    batch (Err (BadLine bad cause)) h few_enough = (few_enough, h)
-    batch (Err TooLarge) h few_enough = absurd h
-    batch (Err NoMemory) h few_enough = absurd h
+    made : (read : Result (List Line) ScriptError) → LinesTold 1 0 (lines_of bytes) read → (IsTooLarge bytes → ⊥) → IsScript s readers bytes (script_by read)
+    made (Ok lines) h few_enough = (few_enough, (lines, h, refl))
+    made (Err (BadLine bad cause)) h few_enough = (few_enough, h)
+    made (Err TooLarge) h few_enough = absurd h
+    made (Err NoMemory) h few_enough = absurd h
 
     small : nat_lt most_bytes (length bytes) ≡ false → nat_lt most_lines (length (lines_of bytes)) ≡ false → IsTooLarge bytes → ⊥
     small e f (inl l) = let h = within most_bytes (length bytes) e in absurd (omega arith)
     small e f (inr l) = let h = within most_lines (length (lines_of bytes)) f in absurd (omega arith)
 
-    told : (t u : Bool) → nat_lt most_bytes (length bytes) ≡ t → nat_lt most_lines (length (lines_of bytes)) ≡ u → IsScript s bytes (script_by t u)
+    told : (t u : Bool) → nat_lt most_bytes (length bytes) ≡ t → nat_lt most_lines (length (lines_of bytes)) ≡ u → IsScript s readers bytes (whole_by t u)
     told true u e f = inl (over most_bytes (length bytes) e)
     told false true e f = inr (over most_lines (length (lines_of bytes)) f)
-    told false false e f = batch (puts_from s 1 (lines_of bytes)) (lines_told 1 (lines_of bytes)) (small e f)
+    told false false e f = made (lines_from s readers 1 0 (lines_of bytes)) (lines_told 1 0 (lines_of bytes)) (small e f)
 
-    few : (t u : Bool) → nat_lt most_bytes (length bytes) ≡ t → nat_lt most_lines (length (lines_of bytes)) ≡ u → (IsTooLarge bytes → ⊥) → script_by t u ≡ one_batch (puts_from s 1 (lines_of bytes))
+    few : (t u : Bool) → nat_lt most_bytes (length bytes) ≡ t → nat_lt most_lines (length (lines_of bytes)) ≡ u → (IsTooLarge bytes → ⊥) → whole_by t u ≡ script_by (lines_from s readers 1 0 (lines_of bytes))
     few true u e f few_enough = absurd (few_enough (inl (over most_bytes (length bytes) e)))
     few false true e f few_enough = absurd (few_enough (inr (over most_lines (length (lines_of bytes)) f)))
     few false false e f few_enough = refl
 
-    many : (t u : Bool) → nat_lt most_bytes (length bytes) ≡ t → nat_lt most_lines (length (lines_of bytes)) ≡ u → IsTooLarge bytes → script_by t u ≡ Err TooLarge
+    many : (t u : Bool) → nat_lt most_bytes (length bytes) ≡ t → nat_lt most_lines (length (lines_of bytes)) ≡ u → IsTooLarge bytes → whole_by t u ≡ Err TooLarge
     many true u e f is = refl
     many false true e f is = refl
     many false false e f is = absurd (small e f is)
 
-    accepted : (script : Script) → IsScript s bytes (Ok script) → script_of s bytes ≡ Ok script
-    accepted script (few_enough, puts, h, same) =
-        few (nat_lt most_bytes (length bytes)) (nat_lt most_lines (length (lines_of bytes))) refl refl few_enough ∙ ap one_batch (accepted_lines 1 (lines_of bytes) puts h) ∙ ap Ok (sym same)
+    accepted : (script : Script) → IsScript s readers bytes (Ok script) → script_of s readers bytes ≡ Ok script
+    accepted script (few_enough, (lines, h, same)) =
+        few (nat_lt most_bytes (length bytes)) (nat_lt most_lines (length (lines_of bytes))) refl refl few_enough ∙ ap script_by (accepted_lines 1 0 (lines_of bytes) lines h) ∙ ap Ok (sym same)
 
-computed : (s : Columns) (bytes : List ℕ) → IsScript s bytes (script_of s bytes)
-computed s bytes = told s bytes (nat_lt most_bytes (length bytes)) (nat_lt most_lines (length (lines_of bytes))) refl refl
+    lines_few : (t : Bool) → nat_lt most_lines (length (lines_of bytes)) ≡ t → (IsTooLarge bytes → ⊥) → length (lines_of bytes) ≤ most_lines
+    lines_few true f few_enough = absurd (few_enough (inr (over most_lines (length (lines_of bytes)) f)))
+    lines_few false f few_enough = within most_lines (length (lines_of bytes)) f
+
+    -- there are not too many lines
+    pub few_lines : (IsTooLarge bytes → ⊥) → length (lines_of bytes) ≤ most_lines
+    few_lines = lines_few (nat_lt most_lines (length (lines_of bytes))) refl
+
+pub computed : (s : Columns) (readers : ℕ) (bytes : List ℕ) → IsScript s readers bytes (script_of s readers bytes)
+computed s readers bytes = told s readers bytes (nat_lt most_bytes (length bytes)) (nat_lt most_lines (length (lines_of bytes))) refl refl
 
 -- what is answered, seen as what the bytes say
-pub answered : (s : Columns) (bytes : List ℕ) (result : Result Script ScriptError) → AnswersScript result (script_of s bytes) → ReadsScript s bytes result
-answered s bytes (Ok script) h = subst (IsScript s bytes) (sym h) (computed s bytes)
-answered s bytes (Err (BadLine line cause)) h = subst (IsScript s bytes) (sym h) (computed s bytes)
-answered s bytes (Err TooLarge) h = subst (IsScript s bytes) (sym h) (computed s bytes)
-answered s bytes (Err NoMemory) h = tt
+pub answered : (s : Columns) (readers : ℕ) (bytes : List ℕ) (result : Result Script ScriptError) → AnswersScript result (script_of s readers bytes) → ReadsScript s readers bytes result
+answered s readers bytes (Ok script) h = subst (IsScript s readers bytes) (sym h) (computed s readers bytes)
+answered s readers bytes (Err (BadLine line cause)) h = subst (IsScript s readers bytes) (sym h) (computed s readers bytes)
+answered s readers bytes (Err TooLarge) h = subst (IsScript s readers bytes) (sym h) (computed s readers bytes)
+answered s readers bytes (Err NoMemory) h = tt
 
 pub meaning : ScriptMeaning
 meaning = record {
   computed = computed;
-  accepted = λ s bytes script is. accepted s bytes script is;
-  large = λ s bytes is. many s bytes (nat_lt most_bytes (length bytes)) (nat_lt most_lines (length (lines_of bytes))) refl refl is;
+  accepted = λ s readers bytes script is. accepted s readers bytes script is;
+  large = λ s readers bytes is. many s readers bytes (nat_lt most_bytes (length bytes)) (nat_lt most_lines (length (lines_of bytes))) refl refl is;
 }

@@ -8,7 +8,7 @@ use Rattle.grammar.proofs.Map.{map_exact}
 use Rattle.grammar.proofs.Signs.{HasText, map_text}
 use Rattle.key_text.specs.Marking.{Marked}
 use Rattle.key_text.proofs.Tracked.{Marks, Tracked, Tracks}
-use Rattle.script_text.specs.Reading.{unmarked, paired}
+use Rattle.script_text.specs.Reading.{unmarked, map_marked, paired}
 
 -- two readings without marks, seen as one value, and what they read
 abbrev pub both : {A B C : Type 0} → (A → B → C) → Read A → Read B → Read C
@@ -19,10 +19,10 @@ Both f First Second = Then First (λ a. Mapped (f a) Second)
 
 module _ {A B C : Type 0} (f : A → B → C) (r : Read A) (s : Read B) (First : A → List ℕ → Type 0) (Second : B → List ℕ → Type 0) (follow : A → ℕ → Type 0) (after : ℕ → Type 0)
     (one : Exact r First follow) (two : Exact s Second (λ _. after)) (some : HasText Second)
-    (starts : (a : A) (b : B) (bs rest : List ℕ) → Second b bs → NextIs (follow a) (bs ++ rest)) where
+    (starts : (a : A) (b : B) (bs rest : List ℕ) → Second b bs → NextIs after rest → NextIs (follow a) (bs ++ rest)) where
   pub both_exact : Exact (both f r s) (Both f First Second) (λ _. after)
   both_exact = bind_exact r (λ a. map_read (f a) s) First (λ a. Mapped (f a) Second) follow (λ _. after) one
-      (λ a. map_exact (f a) s Second (λ _. after) (λ _. after) two (λ b c h. h) (λ b c h. h)) (λ a. map_text (f a) Second some) (λ a c bs rest is h. starts a is.0 bs rest is.1)
+      (λ a. map_exact (f a) s Second (λ _. after) (λ _. after) two (λ b c h. h) (λ b c h. h)) (λ a. map_text (f a) Second some) (λ a c bs rest is h. starts a is.0 bs rest is.1 h)
 
 -- ---- marks
 
@@ -31,16 +31,22 @@ marks_as P Q F G bs (Some x) now to fine h = h
 marks_as P Q F G bs None None to fine h = fine h
 marks_as P Q F G bs None (Some left) to fine h = (h.0, to h.0 h.1, h.2)
 
--- the same reading under a wider grammar
-module _ {A : Type 0} (Is As : A → List ℕ → Type 0) (P Q : List ℕ → ℕ → Type 0) (fine good : A → Type 0)
-    (to : (a : A) (bs : List ℕ) → Is a bs → As a bs) (passes : (bs : List ℕ) (at : ℕ) → P bs at → Q bs at) (well : (a : A) → fine a → good a) where
-  as_by : (got : Result (Marked A × List ℕ) ℕ) (read : Result (A × List ℕ) ℕ) (mark : Option ℕ) (bs : List ℕ) → Tracked Is P fine mark bs got read → Tracked As Q good mark bs got read
-  as_by (Err e) read mark bs h = h
-  as_by (Ok x) read mark bs (v, front, e, g, is, marks) =
-      (v, front, e, g, to v front is, marks_as (P front) (Q front) (fine v × (x.0.0 ≡ v)) (good v × (x.0.0 ≡ v)) bs mark x.0.1 (passes front) (λ h. (well v h.0, h.1)) marks)
+-- what was read seen as another value, under a wider grammar
+module _ {A B : Type 0} (f : A → B) (m : Option ℕ → Read (Marked A)) (r : Read A) (Is : A → List ℕ → Type 0) (As : B → List ℕ → Type 0) (P Q : List ℕ → ℕ → Type 0) (fine : A → Type 0) (good : B → Type 0)
+    (one : Tracks Is P fine m r) (to : (a : A) (bs : List ℕ) → Is a bs → As (f a) bs) (passes : (bs : List ℕ) (at : ℕ) → P bs at → Q bs at) (well : (a : A) → fine a → good (f a)) where
+  map_by : (got : Result (Marked A × List ℕ) ℕ) (read : Result (A × List ℕ) ℕ) (mark : Option ℕ) (bs : List ℕ) → Tracked Is P fine mark bs got read → Tracked As Q good mark bs (mapped (λ x. (f x.0, x.1)) got) (mapped f read)
+  map_by (Err e) read mark bs h = ap (mapped f) h
+  map_by (Ok x) read mark bs (v, front, e, g, is, marks) = (
+    f v,
+    front,
+    ap (mapped f) e,
+    g,
+    to v front is,
+    marks_as (P front) (Q front) (fine v × (x.0.0 ≡ v)) (good (f v) × (f x.0.0 ≡ f v)) bs mark x.0.1 (passes front) (λ h. (well v h.0, ap f h.1)) marks,
+  )
 
-  pub tracks_as : (marked : Option ℕ → Read (Marked A)) (plain : Read A) → Tracks Is P fine marked plain → Tracks As Q good marked plain
-  tracks_as marked plain one mark bs = as_by (marked mark bs) (plain bs) mark bs (one mark bs)
+  pub mapped_tracked : Tracks As Q good (map_marked f m) (map_read f r)
+  mapped_tracked mark bs = map_by (m mark bs) (r bs) mark bs (one mark bs)
 
 -- nothing passes
 abbrev pub Never : List ℕ → ℕ → Type 0

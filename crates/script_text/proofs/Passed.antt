@@ -1,5 +1,5 @@
 -- A line whose first number passes its type is one of the grammar that doesn't fit; and a line that fits is read.
-use Rattle.std.proofs.Common.{◌≡◌, ℕ, zero, suc, Bool, true, false, ◌||◌, List, [], ◌∷◌, ◌++◌, length, Option, Some, None, Result, Ok, Err, refl, sym, ◌∙◌, ap, subst, ◌⊎◌, inl, inr}
+use Rattle.std.proofs.Common.{◌≡◌, ℕ, zero, suc, Bool, true, false, ◌||◌, ◌==◌, List, [], ◌∷◌, ◌++◌, length, Some, None, Result, Ok, Err, refl, sym, ◌∙◌, ap, subst, ◌⊎◌, inl, inr}
 use Rattle.std.specs.Prelude.{replicate, if◌then◌else◌}
 use Rattle.grammar.specs.Reading.{then_read, spaces_at, without_spaces, all_of}
 use Rattle.grammar.proofs.Map.{whole_all}
@@ -8,13 +8,15 @@ use Rattle.key_text.specs.Grammar.{IsLiteral, AreLiterals, AreFurther, IsList, I
 use Rattle.key_text.specs.Marking.{Marked}
 use Rattle.key_text.specs.Outside.{ValuePasses, AnyPasses, FurtherPasses, ListPasses}
 use Rattle.key_text.proofs.Tracked.{Marks, Tracked}
+use Rattle.key_types.specs.declared.schema.ValueType.{ValueType}
 use Rattle.key_types.specs.Columns.{Columns}
+use Rattle.byte_comparable.specs.Order.{Key, KeyFits}
 use Rattle.script_text.specs.declared.script.LineCause.{LineCause}
 use Rattle.script_text.specs.declared.script.LineCause.TheVariants.{BadText}
-use Rattle.script_text.specs.Grammar.{PutText, IsPut, IsLine, PutFits, LineFits}
-use Rattle.script_text.specs.Passing.{PutPasses}
-use Rattle.script_text.specs.Reading.{put_line_at, whole_put, is_comment, is_blank, has_dash, told, line_of}
-use Rattle.script_text.proofs.PutLines.{Closing, PutNumbers, plain_put, put_exact, put_tracked, put_heads, spaced_put_exact}
+use Rattle.script_text.specs.Grammar.{LineText, no_text, put_text, get_text, sync_text, IsKeyText, IsTypeOf, IsCommand, IsLine, LineFits}
+use Rattle.script_text.specs.Passing.{KeyPasses, CommandPasses}
+use Rattle.script_text.specs.Reading.{command_at, whole_line, is_comment, is_blank, has_dash, told, line_of}
+use Rattle.script_text.proofs.Sayings.{AfterLine, LineNumbers, plain_command, command_exact, command_tracked, command_heads, spaced_command_exact}
 use Rattle.script_text.proofs.Told.{comment_is, blank_is}
 
 -- ---- literals that don't fit
@@ -60,76 +62,94 @@ list_misfit ts bs at (left, rest, k, sign, (inside, right, any, last, e), f, g) 
     let p = any_misfit ts inside k any in
     (p.0, (left, inside, right, sign, p.1, last, f ∙ ap (λ x. left ++ x) e), p.2)
 
--- ---- puts
+-- ---- lines
 
 module _ (s : Columns) where
-  put_misfit : (bs : List ℕ) (at : ℕ) → PutPasses s bs at → Misfit (IsPut s) (PutFits s) bs
-  put_misfit bs at (word, list, rest, k, w, e, inl (h, same, cs, v, is)) =
-      let p = list_misfit s.partition list k h in
-      (record { partition = p.0; clustering = cs; value = v }, (word, list, rest, w, p.1, is, e), (λ f. p.2 f.0))
-  put_misfit bs at (word, list, rest, k, w, e, inr (vs, l, n, (row, set, v, g, h, is), same)) =
-      let p = list_misfit s.clustering row k h in
-      (record { partition = vs; clustering = Some p.0; value = v }, (word, list, rest, w, l, (row, set, p.1, is, g), e), (λ f. p.2 f.1))
+  -- a key that is so written, with a value of the type, doesn't fit
+  key_misfit : (t : ValueType) (bs : List ℕ) (at : ℕ) → KeyPasses s t bs at → (key : Key) × IsKeyText s key bs × IsTypeOf s key.clustering t × (KeyFits s.partition s.clustering key → ⊥)
+  key_misfit t bs at (list, within, e, inl (h, cs, is, typed)) =
+      let p = list_misfit s.partition list at h in
+      (record { partition = p.0; clustering = cs }, (list, within, p.1, is, e), typed, (λ f. p.2 f.0))
+  key_misfit t bs at (list, within, e, inr (vs, k, l, n, h, typed, same)) =
+      let p = list_misfit s.clustering within k h in
+      (record { partition = vs; clustering = Some p.0 }, (list, within, l, p.1, e), typed, (λ f. p.2 f.1))
 
-  same_value : (p q : PutText) (got : Result (PutText × List ℕ) ℕ) → got ≡ Ok (p, []) → got ≡ Ok (q, []) → p ≡ q
-  same_value p q got e f = let pairs : ◌≡◌ {A = PutText × List ℕ} (p, []) (q, []) = cc in ap (λ x. x.0) pairs
+  command_misfit : (bs : List ℕ) (at : ℕ) → CommandPasses s bs at → Misfit (IsCommand s) (LineFits s) bs
+  command_misfit bs at (inl (t, word, key, set, k, v, w, h, is, e, same)) =
+      let p = key_misfit t key k h in
+      (put_text (record { key = p.0; value = v }), (t, word, key, set, w, p.1, p.2, is, e), (λ f. p.3 f.0))
+  command_misfit bs at (inr (t, word, key, k, w, h, e, same)) =
+      let p = key_misfit t key k h in
+      (get_text p.0, (word, key, w, p.1, e), p.3)
 
-  -- a line puts one thing
-  one_put : (p q : PutText) (bs : List ℕ) → IsPut s p bs → IsPut s q bs → p ≡ q
-  one_put p q bs is also = same_value p q (plain_put s (bs ++ [])) ((put_exact s).all p bs [] is tt) ((put_exact s).all q bs [] also tt)
+  same_value : (p q : LineText) (got : Result (LineText × List ℕ) ℕ) → got ≡ Ok (p, []) → got ≡ Ok (q, []) → p ≡ q
+  same_value p q got e f = let pairs : ◌≡◌ {A = LineText × List ℕ} (p, []) (q, []) = cc in ap (λ x. x.0) pairs
 
-  module _ (line : List ℕ) (p : PutText) (fits : PutFits s p) where
+  -- a line says one thing
+  one_line : (p q : LineText) (bs : List ℕ) → IsCommand s p bs → IsCommand s q bs → p ≡ q
+  one_line p q bs is also = same_value p q (plain_command s (bs ++ [])) ((command_exact s).all p bs [] is tt) ((command_exact s).all q bs [] also tt)
+
+  module _ (line : List ℕ) (p : LineText) (fits : LineFits s p) where
     abbrev behind : List ℕ
     behind = without_spaces line
 
-    mark_by : (x : Marked PutText) (v : PutText) (front : List ℕ) → v ≡ p → IsPut s v front → Marks (PutPasses s front) (PutNumbers s v × (x.0 ≡ v)) behind None x.1 → x ≡ (p, None)
+    mark_by : (x : Marked LineText) (v : LineText) (front : List ℕ) → v ≡ p → IsCommand s v front → Marks (CommandPasses s front) (LineNumbers s v × (x.0 ≡ v)) behind None x.1 → x ≡ (p, None)
     mark_by (y, None) v front same is h = ap (λ z. (z, None)) (h.1 ∙ same)
     mark_by (y, Some left) v front same is h =
-        let q = put_misfit front h.0 h.1 in
-        absurd (q.2 (subst (PutFits s) (sym (one_put q.0 v front q.1 is ∙ same)) fits))
+        let q = command_misfit front h.0 h.1 in
+        absurd (q.2 (subst (LineFits s) (sym (one_line q.0 v front q.1 is ∙ same)) fits))
 
-    read_by : (got : Result (Marked PutText × List ℕ) ℕ) (plain : Result (PutText × List ℕ) ℕ) → Tracked (IsPut s) (PutPasses s) (PutNumbers s) None behind got plain → all_of plain ≡ Ok p → all_of got ≡ Ok (p, None)
+    read_by : (got : Result (Marked LineText × List ℕ) ℕ) (plain : Result (LineText × List ℕ) ℕ) → Tracked (IsCommand s) (CommandPasses s) (LineNumbers s) None behind got plain → all_of plain ≡ Ok p → all_of got ≡ Ok (p, None)
     read_by (Ok (x, [])) plain (v, front, e, f, is, marks) h =
         let same : v ≡ p = (let k : Ok v ≡ Ok p = ap all_of (sym e) ∙ h in cc) in
         ap Ok (mark_by x v front same is marks)
     read_by (Ok (x, b ∷ bs)) plain (v, front, e, f, is, marks) h = absurd (let no : Err (length (b ∷ bs)) ≡ Ok p = ap all_of (sym e) ∙ h in cc)
     read_by (Err n) plain e h = absurd (let no : Err n ≡ Ok p = ap all_of (sym e) ∙ h in cc)
 
-    put_all : IsText (IsPut s) p line → whole_put s line ≡ Ok (p, None)
-    put_all is = read_by (put_line_at s None behind) (plain_put s behind) (put_tracked s None behind) (whole_all (then_read spaces_at (λ _. plain_put s)) (IsText (IsPut s)) Closing (spaced_put_exact s) line p is)
+    line_read : IsText (IsCommand s) p line → whole_line s line ≡ Ok (p, None)
+    line_read is =
+        read_by (command_at s None behind) (plain_command s behind) (command_tracked s None behind) (whole_all (then_read spaces_at (λ _. plain_command s)) (IsText (IsCommand s)) (AfterLine s) (spaced_command_exact s) line p is)
 
-  -- ---- a put begins like no other line
+  -- ---- such a line begins like no other
 
-  plain_by : (n : ℕ) (rest : List ℕ) → (cs : List ℕ) × (rest ≡ 112 ∷ cs) → (is_comment (replicate n 32 ++ rest) ≡ false) × (is_blank (replicate n 32 ++ rest) ≡ false) × (has_dash (replicate n 32 ++ rest) ≡ false)
-  plain_by zero rest (cs, e) = (ap is_comment e ∙ first cs, ap is_blank e, ap has_dash e)
-    where
-      first : (cs : List ℕ) → is_comment (112 ∷ cs) ≡ false
-      first [] = refl
-      first (c ∷ cs) = refl
+  abbrev IsPlain : List ℕ → Type 0
+  IsPlain line = (is_comment line ≡ false) × (is_blank line ≡ false) × (has_dash line ≡ false)
+
+  plain_head : (c : ℕ) (cs : List ℕ) → (c == 32) ≡ false → (c == 45) ≡ false → IsPlain (c ∷ cs)
+  plain_head c [] e f = (refl, rw e refl, f)
+  plain_head c (d ∷ cs) e f = (rw f refl, rw e refl, f)
+
+  plain_by : (n : ℕ) (rest : List ℕ) → (c : ℕ) × (cs : List ℕ) × (rest ≡ c ∷ cs) × (((c == 32) ≡ false) × ((c == 45) ≡ false)) → IsPlain (replicate n 32 ++ rest)
+  plain_by zero rest (c, cs, e, h) = subst IsPlain (sym e) (plain_head c cs h.0 h.1)
   plain_by (suc n) rest h = (space (replicate n 32 ++ rest), (plain_by n rest h).1, refl)
     where
       space : (cs : List ℕ) → is_comment (32 ∷ cs) ≡ false
       space [] = refl
       space (c ∷ cs) = refl
 
-  silent_by : (t u : Bool) (rest : Result (Option PutText) LineCause) → (t ≡ true) ⊎ (u ≡ true) → (if t || u then Ok None else rest) ≡ Ok None
+  silent_by : (t u : Bool) (rest : Result LineText LineCause) → (t ≡ true) ⊎ (u ≡ true) → (if t || u then Ok no_text else rest) ≡ Ok no_text
   silent_by true u rest h = refl
   silent_by false true rest h = refl
   silent_by false false rest (inl h) = cc
   silent_by false false rest (inr h) = cc
 
-  spoken_by : (t u w : Bool) (n : ℕ) (p : PutText) (got : Result (Marked PutText) ℕ) → t ≡ false → u ≡ false → w ≡ false → got ≡ Ok (p, None)
-      → (if t || u then Ok None else (if w then Err (BadText 1) else told n got)) ≡ Ok (Some p)
+  spoken_by : (t u w : Bool) (n : ℕ) (p : LineText) (got : Result (Marked LineText) ℕ) → t ≡ false → u ≡ false → w ≡ false → got ≡ Ok (p, None)
+      → (if t || u then Ok no_text else (if w then Err (BadText 1) else told n got)) ≡ Ok p
   spoken_by true u w n p got e f g h = cc
   spoken_by false true w n p got e f g h = cc
   spoken_by false false true n p got e f g h = cc
   spoken_by false false false n p got e f g h = ap (told n) h
 
+  spoken : (p : LineText) (line : List ℕ) → IsText (IsCommand s) p line → LineFits s p → line_of s line ≡ Ok p
+  spoken p line (n, rest, e, is) fits =
+      let h = plain_by n rest (command_heads s p rest is) in
+      spoken_by (is_comment line) (is_blank line) (has_dash line) (length line) p (whole_line s line)
+      (ap is_comment e ∙ h.0) (ap is_blank e ∙ h.1) (ap has_dash e ∙ h.2) (line_read line p fits (n, rest, e, is))
+
   -- a line that fits is read
-  pub line_all : (said : Option PutText) (line : List ℕ) → IsLine s said line → LineFits s said → line_of s line ≡ Ok said
-  line_all None line (inl is) fits = silent_by (is_comment line) (is_blank line) (if has_dash line then Err (BadText 1) else told (length line) (whole_put s line)) (inl (comment_is line is))
-  line_all None line (inr is) fits = silent_by (is_comment line) (is_blank line) (if has_dash line then Err (BadText 1) else told (length line) (whole_put s line)) (inr (blank_is line is))
-  line_all (Some p) line (n, rest, e, is) fits =
-      let h = plain_by n rest (put_heads s p rest is) in
-      spoken_by (is_comment line) (is_blank line) (has_dash line) (length line) p (whole_put s line)
-      (ap is_comment e ∙ h.0) (ap is_blank e ∙ h.1) (ap has_dash e ∙ h.2) (put_all line p fits (n, rest, e, is))
+  pub line_all : (said : LineText) (line : List ℕ) → IsLine s said line → LineFits s said → line_of s line ≡ Ok said
+  line_all no_text line (inl is) fits = silent_by (is_comment line) (is_blank line) (if has_dash line then Err (BadText 1) else told (length line) (whole_line s line)) (inl (comment_is line is))
+  line_all no_text line (inr is) fits = silent_by (is_comment line) (is_blank line) (if has_dash line then Err (BadText 1) else told (length line) (whole_line s line)) (inr (blank_is line is))
+  line_all (put_text p) line is fits = spoken (put_text p) line is fits
+  line_all (get_text key) line is fits = spoken (get_text key) line is fits
+  line_all sync_text line is fits = spoken sync_text line is fits

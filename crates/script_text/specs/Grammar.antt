@@ -2,41 +2,73 @@
 use Rattle.std.specs.Prelude.{◌≡◌, ◌⊎◌, ℕ, List, ◌++◌, replicate, Bool, codes, Option, Some, None}
 use Rattle.key_types.specs.declared.schema.ValueType.{ValueType}
 use Rattle.key_types.specs.declared.schema.ValueType.TheVariants.{Text, Blob}
-use Rattle.key_types.specs.Kinds.{Kind, text, blob, Val, Vals, Fits, EachFits}
+use Rattle.key_types.specs.Kinds.{Kind, text, blob, Val, Vals, Fits}
 use Rattle.grammar.specs.Reading.{IsSign, IsToken}
 use Rattle.key_text.specs.Grammar.{IsLiteral, IsList, IsText}
 use Rattle.key_types.specs.Columns.{Columns}
+use Rattle.byte_comparable.specs.Order.{Key, KeyFits}
 
--- what a line puts: the components of a partition, those of the row within it or none for the partition's static value, and the value
+-- what a line puts: a key, which is a row's or names a partition's static value, and the value
 pub record PutText : Type 0 where
-  pub partition : Vals
-  pub clustering : Option Vals
+  pub key : Key
   pub value : Val
+
+-- what a line says: nothing; or it puts; or it asks for a key; or it ends a batch
+pub data LineText : Type 0 where
+  no_text : LineText
+  put_text : PutText → LineText
+  get_text : Key → LineText
+  sync_text : LineText
+
+-- ---- keys
+
+-- a word with the spaces behind it, or none
+abbrev pub IsSpacedWord : List ℕ → List ℕ → Type 0
+IsSpacedWord word bs = (spaced : Bool) × IsToken word spaced bs
+
+-- what stands behind the components of a partition: those of a row; or, where there is a static type, the word `static`
+abbrev pub IsWithinText : Columns → Option Vals → List ℕ → Type 0
+IsWithinText s (Some cs) bs = IsList s.clustering cs bs
+IsWithinText s None bs = (t : ValueType) × (s.static_value ≡ Some t) × IsSpacedWord (codes "static") bs
+
+-- the components of a partition, and what stands behind them
+abbrev pub IsKeyText : Columns → Key → List ℕ → Type 0
+IsKeyText s key bs = (list : List ℕ) × (within : List ℕ) × IsList s.partition key.partition list × IsWithinText s key.clustering within × (bs ≡ list ++ within)
+
+-- ---- values
 
 -- values of columns are written like those of keys
 abbrev pub value_kind : ValueType → Kind
 value_kind Text = text
 value_kind Blob = blob
 
--- a word with the spaces behind it, or none
-abbrev pub IsSpacedWord : List ℕ → List ℕ → Type 0
-IsSpacedWord word bs = (spaced : Bool) × IsToken word spaced bs
-
 -- an equals sign and a value of the type
 abbrev pub IsSet : ValueType → Val → List ℕ → Type 0
 IsSet t v bs = (equals : List ℕ) × (value : List ℕ) × IsSign 61 tt equals × IsLiteral (value_kind t) v value × (bs ≡ equals ++ value)
 
--- the components of a row, and what it is set to; or, where there is a static type, the word `static`, and what that is set to
-abbrev pub IsPutRest : Columns → Option Vals → Val → List ℕ → Type 0
-IsPutRest s (Some cs) v bs = (list : List ℕ) × (set : List ℕ) × IsList s.clustering cs list × IsSet s.value v set × (bs ≡ list ++ set)
-IsPutRest s None v bs =
-    (t : ValueType) × (word : List ℕ) × (set : List ℕ) × (s.static_value ≡ Some t) × IsSpacedWord (codes "static") word × IsSet t v set × (bs ≡ word ++ set)
+-- the type of the value behind a key: that of rows, or that of static values
+abbrev pub IsTypeOf : Columns → Option Vals → ValueType → Type 0
+IsTypeOf s (Some cs) t = t ≡ s.value
+IsTypeOf s None t = s.static_value ≡ Some t
 
--- `put`, the components of a partition, and the rest, without spaces before
+-- ---- lines
+
+-- `put`, a key, and what it is set to
 abbrev pub IsPut : Columns → PutText → List ℕ → Type 0
 IsPut s p bs =
-    (word : List ℕ) × (list : List ℕ) × (rest : List ℕ)
-    × IsSpacedWord (codes "put") word × IsList s.partition p.partition list × IsPutRest s p.clustering p.value rest × (bs ≡ word ++ (list ++ rest))
+    (t : ValueType) × (word : List ℕ) × (key : List ℕ) × (set : List ℕ)
+    × IsSpacedWord (codes "put") word × IsKeyText s p.key key × IsTypeOf s p.key.clustering t × IsSet t p.value set × (bs ≡ word ++ (key ++ set))
+
+-- `get` and a key
+abbrev pub IsGet : Columns → Key → List ℕ → Type 0
+IsGet s asked bs = (word : List ℕ) × (key : List ℕ) × IsSpacedWord (codes "get") word × IsKeyText s asked key × (bs ≡ word ++ key)
+
+-- a line that says something, without spaces before
+abbrev pub IsCommand : Columns → LineText → List ℕ → Type 0
+IsCommand s no_text bs = ⊥
+IsCommand s (put_text p) bs = IsPut s p bs
+IsCommand s (get_text key) bs = IsGet s key bs
+IsCommand s sync_text bs = IsSpacedWord (codes "sync") bs
 
 -- two dashes, and anything behind them
 abbrev pub IsComment : List ℕ → Type 0
@@ -46,26 +78,22 @@ IsComment bs = (rest : List ℕ) × (bs ≡ codes "--" ++ rest)
 abbrev pub IsBlank : List ℕ → Type 0
 IsBlank bs = (n : ℕ) × (bs ≡ replicate n 32)
 
--- a line says nothing or puts
-abbrev pub IsLine : Columns → Option PutText → List ℕ → Type 0
-IsLine s None bs = IsComment bs ⊎ IsBlank bs
-IsLine s (Some p) bs = IsText (IsPut s) p bs
+-- a line says nothing, or something with spaces before
+abbrev pub IsLine : Columns → LineText → List ℕ → Type 0
+IsLine s no_text bs = IsComment bs ⊎ IsBlank bs
+IsLine s (put_text p) bs = IsText (IsCommand s) (put_text p) bs
+IsLine s (get_text key) bs = IsText (IsCommand s) (get_text key) bs
+IsLine s sync_text bs = IsText (IsCommand s) sync_text bs
 
--- the value's type: that of rows, or that of static values
-abbrev pub IsTypeOf : Columns → Option Vals → ValueType → Type 0
-IsTypeOf s (Some cs) t = t ≡ s.value
-IsTypeOf s None t = s.static_value ≡ Some t
+-- ---- what fits
 
--- the components of a row fit
-abbrev pub RowFits : Columns → Option Vals → Type 0
-RowFits s (Some cs) = EachFits s.clustering cs
-RowFits s None = Unit {0}
-
--- all components fit their types, and the value its own
+-- the key's components fit their types, and the value its own
 abbrev pub PutFits : Columns → PutText → Type 0
-PutFits s p = EachFits s.partition p.partition × RowFits s p.clustering × ((t : ValueType) × IsTypeOf s p.clustering t × Fits (value_kind t) p.value)
+PutFits s p = KeyFits s.partition s.clustering p.key × ((t : ValueType) × IsTypeOf s p.key.clustering t × Fits (value_kind t) p.value)
 
 -- so of a line
-abbrev pub LineFits : Columns → Option PutText → Type 0
-LineFits s None = Unit {0}
-LineFits s (Some p) = PutFits s p
+abbrev pub LineFits : Columns → LineText → Type 0
+LineFits s no_text = Unit {0}
+LineFits s (put_text p) = PutFits s p
+LineFits s (get_text key) = KeyFits s.partition s.clustering key
+LineFits s sync_text = Unit {0}

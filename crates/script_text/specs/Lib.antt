@@ -3,7 +3,11 @@ pub mod Lines
 pub mod Grammar
 pub mod Passing
 pub mod Reading
-pub mod Parts
+pub mod Spelled
 pub mod Script
 pub mod Laws
 pub mod Meaning
+pub mod Pieces
+pub mod Parts
+pub mod Steps
+pub mod Generator

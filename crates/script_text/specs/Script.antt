@@ -1,23 +1,55 @@
--- What a script spells: its puts, or the first line that isn't accepted. This project's own.
-use Rattle.std.specs.Prelude.{◌≡◌, ℕ, ◌+◌, ◌||◌, List, [], ◌∷◌, ◌++◌, length, map, Option, Some, None, Result, Ok, Err, if◌then◌else◌, nat_lt}
+-- What a script spells: its batches, or the first line that isn't accepted. This project's own.
+use Rattle.std.specs.Prelude.{◌≡◌, ℕ, ◌+◌, ◌%◌, ◌||◌, List, [], ◌∷◌, ◌++◌, length, map, ⊤, Result, Ok, Err, if◌then◌else◌, nat_lt}
 use Rattle.std.specs.Str.{is_utf8}
-use Rattle.key_types.specs.Kinds.{Kinds, Val, bytes, Vals}
 use Rattle.key_types.specs.Table.{Entry}
-use Rattle.byte_comparable.specs.Encoding.{key_string}
 use Rattle.byte_comparable.specs.Strings.{longest_string}
 use Rattle.key_types.specs.Columns.{Columns, longest_value}
-use Rattle.script_text.specs.Puts.{Put}
-use Rattle.script_text.specs.declared.script.Batch.{Batch}
+use Rattle.script_text.specs.Puts.{Put, Get, Batch}
 use Rattle.script_text.specs.declared.script.Script.{Script}
 use Rattle.script_text.specs.declared.script.LineCause.{LineCause}
 use Rattle.script_text.specs.declared.script.LineCause.TheVariants.{NotUtf8, KeyTooLong, ValueTooLong}
 use Rattle.script_text.specs.declared.script.ScriptError.{ScriptError}
 use Rattle.script_text.specs.declared.script.ScriptError.TheVariants.{BadLine, TooLarge, NoMemory}
-use Rattle.script_text.specs.Grammar.{PutText}
 use Rattle.script_text.specs.Reading.{line_of}
 use Rattle.script_text.specs.Lines.{lines_of}
+use Rattle.script_text.specs.Spelled.{Line, no_line, put_line, get_line, sync_line, spelled_line, gets_after}
 
--- ---- a line's put
+-- ---- batches
+
+abbrev pub empty_batch : Batch
+empty_batch = record { puts = []; gets = [] }
+
+-- a line in front of a batch and those behind it: `sync` begins one more
+abbrev pub in_front : Line → Batch × List Batch → Batch × List Batch
+in_front no_line batches = batches
+in_front (put_line p) batches = (record { puts = p ∷ batches.0.puts; gets = batches.0.gets }, batches.1)
+in_front (get_line g) batches = (record { puts = batches.0.puts; gets = g ∷ batches.0.gets }, batches.1)
+in_front sync_line batches = (empty_batch, batches.0 ∷ batches.1)
+
+-- the first batch of some lines, and those behind it: `sync` ends a batch, and the end of the script ends the last
+abbrev pub first_and_rest : List Line → Batch × List Batch
+first_and_rest [] = (empty_batch, [])
+first_and_rest (line ∷ lines) = in_front line (first_and_rest lines)
+
+-- all batches of some lines
+abbrev pub batches_of : List Line → List Batch
+batches_of lines = let split = first_and_rest lines in split.0 ∷ split.1
+
+-- all puts of a script in the order of their lines
+abbrev pub puts_of : List Batch → List Put
+puts_of [] = []
+puts_of (batch ∷ batches) = batch.puts ++ puts_of batches
+
+-- all gets of a script in the order of their lines
+abbrev pub gets_of : List Batch → List Get
+gets_of [] = []
+gets_of (batch ∷ batches) = batch.gets ++ gets_of batches
+
+-- the script of these lines
+abbrev pub script_with : List Line → Script
+script_with lines = record { batches = batches_of lines; puts = length (puts_of (batches_of lines)) }
+
+-- ---- a line that is accepted
 
 -- one step after another, unless the first fails
 infixl 10 ◌>>=◌
@@ -25,70 +57,46 @@ abbrev pub ◌>>=◌ : {A B E : Type 0} → Result A E → (A → Result B E) �
 (Ok x) >>= f = f x
 (Err e) >>= f = Err e
 
--- a string that isn't too long
-abbrev pub short_key : List ℕ → Result (List ℕ) LineCause
-short_key string = if nat_lt longest_string (length string) then Err (KeyTooLong (length string)) else Ok string
+-- the length of a string isn't too great
+abbrev pub short_key : ℕ → Result ⊤ LineCause
+short_key n = if nat_lt longest_string n then Err (KeyTooLong n) else Ok tt
 
--- the string of key values
-abbrev pub key_of : Kinds → Vals → Result (List ℕ) LineCause
-key_of ts vs = short_key (key_string ts vs)
+-- that of a value isn't too great
+abbrev pub short_value : ℕ → Result ⊤ LineCause
+short_value n = if nat_lt longest_value n then Err (ValueTooLong n) else Ok tt
 
--- that of a row within its partition; a static value has the empty one
-abbrev pub row_key : Kinds → Option Vals → Result (List ℕ) LineCause
-row_key ts (Some vs) = key_of ts vs
-row_key ts None = Ok []
+-- those of the strings of a key: of the partition's, and of the one within it
+abbrev pub short_keys : ℕ → ℕ → Result ⊤ LineCause
+short_keys partition clustering = short_key partition >>= λ _. short_key clustering
 
--- the bytes of a text or blob
-abbrev pub value_bytes : Val → List ℕ
-value_bytes (bytes b) = b
-value_bytes _ = []
+-- a line of which no string is too long, nor the value; or the first of them that is
+abbrev pub short_line : Line → Result Line LineCause
+short_line no_line = Ok no_line
+short_line (put_line p) = short_keys (length p.partition) (length p.clustering) >>= λ _. short_value (length p.value) >>= λ _. Ok (put_line p)
+short_line (get_line g) = short_keys (length g.partition) (length g.clustering) >>= λ _. Ok (get_line g)
+short_line sync_line = Ok sync_line
 
--- a value that isn't too long
-abbrev pub short_value : List ℕ → Result (List ℕ) LineCause
-short_value v = if nat_lt longest_value (length v) then Err (ValueTooLong (length v)) else Ok v
-
--- the put with its strings, or the first of them that is too long
-abbrev pub put_of : Columns → ℕ → PutText → Result Put LineCause
-put_of s line p = do
-  partition ← key_of s.partition p.partition
-  clustering ← row_key s.clustering p.clustering
-  value ← short_value (value_bytes p.value)
-  Ok (record { line = line; partition = partition; clustering = clustering; value = value })
-
--- where there is a put
-abbrev pub some_put : Columns → ℕ → Option PutText → Result (Option Put) LineCause
-some_put s line None = Ok None
-some_put s line (Some p) = put_of s line p >>= λ put. Ok (Some put)
-
--- the put of a line with this number, where it has one
-abbrev pub put_on : Columns → ℕ → List ℕ → Result (Option Put) LineCause
-put_on s line text = if is_utf8 text then (line_of s text >>= λ said. some_put s line said) else Err NotUtf8
+-- what the line with this number spells, of which a get goes to this reader
+abbrev pub line_on : Columns → ℕ → ℕ → List ℕ → Result Line LineCause
+line_on s number reader text = if is_utf8 text then (line_of s text >>= λ said. short_line (spelled_line s number reader said)) else Err NotUtf8
 
 -- ---- all lines
 
 -- what came of a line with this number
 abbrev pub at_line : {X : Type 0} → ℕ → Result X LineCause → Result X ScriptError
-at_line line (Ok x) = Ok x
-at_line line (Err cause) = Err (BadLine line cause)
+at_line number (Ok x) = Ok x
+at_line number (Err cause) = Err (BadLine number cause)
 
--- a line's put, where it has one, in front of those behind it
-abbrev pub in_front : Option Put → List Put → List Put
-in_front None puts = puts
-in_front (Some put) puts = put ∷ puts
+-- what the lines spell, the first of which has this number and so many gets before it, or the first that isn't accepted; gets go to so many readers in turn
+abbrev pub lines_from : Columns → ℕ → ℕ → ℕ → List (List ℕ) → Result (List Line) ScriptError
+lines_from s readers number gets [] = Ok []
+lines_from s readers number gets (text ∷ texts) =
+    at_line number (line_on s number (gets % readers) text) >>= λ line. lines_from s readers (number + 1) (gets_after line gets) texts >>= λ lines. Ok (line ∷ lines)
 
--- of two refusals the first counts
-abbrev pub with_rest : Result (Option Put) ScriptError → Result (List Put) ScriptError → Result (List Put) ScriptError
-with_rest first rest = first >>= λ put. rest >>= λ puts. Ok (in_front put puts)
-
--- the puts of the lines, the first of which has this number, or the first line that isn't accepted
-abbrev pub puts_from : Columns → ℕ → List (List ℕ) → Result (List Put) ScriptError
-puts_from s line [] = Ok []
-puts_from s line (text ∷ texts) = with_rest (at_line line (put_on s line text)) (puts_from s (line + 1) texts)
-
--- a script of puts alone is one batch
-abbrev pub one_batch : Result (List Put) ScriptError → Result Script ScriptError
-one_batch (Ok puts) = Ok (record { batches = record { puts = puts; gets = [] } ∷ []; puts = length puts })
-one_batch (Err e) = Err e
+-- the script of lines, where all are accepted
+abbrev pub script_by : Result (List Line) ScriptError → Result Script ScriptError
+script_by (Ok lines) = Ok (script_with lines)
+script_by (Err e) = Err e
 
 -- the greatest length of a script, in bytes, and the greatest count of its lines
 abbrev pub most_bytes : ℕ
@@ -97,16 +105,17 @@ most_bytes = 67108864
 abbrev pub most_lines : ℕ
 most_lines = 1000000
 
--- what the bytes spell under a schema of these columns: too large with too many bytes or lines, which is asked first
-abbrev pub script_of : Columns → List ℕ → Result Script ScriptError
-script_of s bs =
-    if nat_lt most_bytes (length bs) || nat_lt most_lines (length (lines_of bs)) then Err TooLarge
-    else one_batch (puts_from s 1 (lines_of bs))
+-- the greatest count of readers
+abbrev pub most_readers : ℕ
+most_readers = 8
 
--- all puts of a script in the order of their lines
-abbrev pub puts_of : List Batch → List Put
-puts_of [] = []
-puts_of (batch ∷ batches) = batch.puts ++ puts_of batches
+-- what the bytes spell under a schema of these columns, for so many readers: too large with too many bytes or lines, which is asked first
+abbrev pub script_of : Columns → ℕ → List ℕ → Result Script ScriptError
+script_of s readers bs =
+    if nat_lt most_bytes (length bs) || nat_lt most_lines (length (lines_of bs)) then Err TooLarge
+    else script_by (lines_from s readers 1 0 (lines_of bs))
+
+-- ---- entries
 
 -- the key string of a put, which for a static value is that of its partition, and its value
 abbrev pub entry_of_put : Put → Entry

@@ -1,5 +1,6 @@
 //! Laws over the definitions of scripts.
-ghost use Rattle.script_text.specs.Laws.{EntriesAscend, ReadsLines, SpelledAreAccepted};
+ghost use Rattle.script_text.specs.Generator.{GeneratesGets};
+ghost use Rattle.script_text.specs.Laws.{BatchesKeepOrder, EntriesAscend, ReadsLines, SpelledAreAccepted};
 ghost use Rattle.script_text.specs.Meaning.{ScriptMeaning};
 
 /// A line is read as what it says exactly where the grammar has it and its numbers are of their types, and else
@@ -8,9 +9,15 @@ pub fn law_put_lines()
     ensures { ReadsLines }
 {}
 
-/// The puts of a script are of its schema, and there are at most `MOST_LINES`.
+/// The puts and gets of a script are of its schema, and there are at most `MOST_LINES` of each; their lines ascend, and
+/// the gets go to the readers in turn.
 pub fn law_accepted_puts()
     ensures { SpelledAreAccepted }
+{}
+
+/// The puts and gets of all batches in their order are those of the lines.
+pub fn law_batches_keep_order()
+    ensures { BatchesKeepOrder }
 {}
 
 /// The entries of the sorted map of an accepted script ascend by the order of their typed keys, a static key first in
@@ -23,4 +30,9 @@ pub fn law_entries_ascend()
 /// that they are too many, it computes no other.
 pub fn law_script_meaning()
     ensures { ScriptMeaning }
+{}
+
+/// A generated script has as many gets as are asked for.
+pub fn law_generated_gets()
+    ensures { GeneratesGets }
 {}

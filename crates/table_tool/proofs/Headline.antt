@@ -11,8 +11,10 @@ use Rattle.key_types.specs.Table.{Table}
 use Rattle.script_text.proofs.Meaning.{meaning}
 use Rattle.script_text.specs.Lines.{lines_of}
 use Rattle.script_text.specs.Meaning.{AreAcceptedLines, IsScript}
-use Rattle.script_text.specs.Puts.{Put}
-use Rattle.script_text.specs.Script.{puts_of, script_of}
+use Rattle.script_text.specs.Puts.{Batch, Put}
+use Rattle.script_text.specs.Script.{batches_of, puts_of, script_of}
+use Rattle.script_text.specs.Spelled.{Line}
+use Rattle.script_run.specs.Legal.{IsLegalText}
 use Rattle.script_text.specs.declared.script.Script.{Script}
 use Rattle.script_text.specs.declared.script.ScriptError.{ScriptError}
 use Rattle.script_text.specs.declared.script.ScriptError.TheVariants as script_error
@@ -20,8 +22,8 @@ use Rattle.table_files.specs.Standing.{StandFor}
 use Rattle.table_tool.specs.declared.status.Status.{Status}
 use Rattle.table_tool.specs.declared.status.Status.TheVariants as status
 use Rattle.table_tool.specs.First.{first_generation}
-use Rattle.table_tool.specs.Laws.{Headline, PrintsAllPuts}
-use Rattle.table_tool.specs.Loading.{EndsLoad, LoadEnds, LoadPrints, loading, loading_of}
+use Rattle.table_tool.specs.Laws.{AnswersAllGets, HeadlineOfFiles, HeadlineOfReads, PrintsAllPuts}
+use Rattle.table_tool.specs.Loading.{LoadAsked, LoadEnds, Loaded, WritesLoad, loading, loading_of}
 use Rattle.table_tool.specs.Outcome.{IsOrNoMemory}
 use Rattle.table_tool.specs.Outside.{Outside, SinkFails, StoreFails}
 use Rattle.key_types.specs.Table.{Entry}
@@ -37,20 +39,19 @@ use Rattle.flush_walk.proofs.PartsLemmas.{some_key}
 use Rattle.table_tool.specs.Rows.{rows_of, table_put}
 use Rattle.table_tool.specs.Scanning.{ScanEnds, ScanPrints}
 
--- the script whose puts are taken
-accepted : (r : Result Script ScriptError) (puts : List Put) → loading_of r ≡ Ok puts → (script : Script) × (r ≡ Ok script) × (puts_of script.batches ≡ puts)
-accepted (Ok script) puts e = (script, refl, cc)
-accepted (Err (script_error.BadLine line cause)) puts e = cc
-accepted (Err script_error.TooLarge) puts e = cc
-accepted (Err script_error.NoMemory) puts e = cc
+-- the script that is taken
+accepted : (r : Result Script ScriptError) (script : Script) → loading_of r ≡ Ok script → r ≡ Ok script
+accepted (Ok script') script e = let same : script' ≡ script = cc in ap Ok same
+accepted (Err (script_error.BadLine line cause)) script e = cc
+accepted (Err script_error.TooLarge) script e = cc
+accepted (Err script_error.NoMemory) script e = cc
 
--- the puts of a script that `script_of` computes are those of its lines
-said : (columns : Columns) (bytes : List ℕ) (puts : List Put) → (script : Script) × (script_of columns bytes ≡ Ok script) × (puts_of script.batches ≡ puts)
-    → AreAcceptedLines columns 1 (lines_of bytes) puts
-said columns bytes puts (script, is, of) =
-    let meant : IsScript columns bytes (Ok script) = subst (IsScript columns bytes) is (meaning.computed columns bytes) in
-    let same : meant.1 ≡ puts = sym (append-nil meant.1) ∙ ap (λ (s : Script). puts_of s.batches) (sym meant.3) ∙ of in
-    subst (AreAcceptedLines columns 1 (lines_of bytes)) same meant.2
+-- a script that `script_of` computes is that of its lines
+said : (columns : Columns) (readers : ℕ) (bytes : List ℕ) (script : Script) → script_of columns readers bytes ≡ Ok script
+    → (lines : List Line) × AreAcceptedLines columns readers 1 0 (lines_of bytes) lines × (script.batches ≡ batches_of lines)
+said columns readers bytes script is =
+    let meant : IsScript columns readers bytes (Ok script) = subst (IsScript columns readers bytes) is (meaning.computed columns readers bytes) in
+    (meant.1.0, meant.1.1, ap (λ (s : Script). s.batches) meant.1.2)
 
 -- ---- the lines of entries by their typed keys
 
@@ -78,14 +79,12 @@ module _ (columns : Columns) where
       rw e
       (key, entry_lines columns rest, row_count columns rest, fits, is, ap (λ l. l ++ entry_lines columns rest) line, ap (λ n. n + row_count columns rest) count, all_named keys rest more)
 
-  table_text : (bytes : List ℕ) (puts : List Put) → (script : Script) × (script_of columns bytes ≡ Ok script) × (puts_of script.batches ≡ puts) → IsTableText columns (rows_of puts) (rows_text columns (rows_of puts))
-  table_text bytes puts (script, is, of) =
-      let keyed = entries_ascend columns bytes script is in (
-        entry_lines columns (rows_of puts),
-        row_count columns (rows_of puts),
-        subst (λ (ps : List Put). AreKeyLines columns (rows_of ps) (entry_lines columns (rows_of ps)) (row_count columns (rows_of ps))) of (all_named keyed.0 (rows_of (puts_of script.batches)) keyed.1),
-        refl,
-      )
+  table_text : (readers : ℕ) (bytes : List ℕ) (script : Script) → script_of columns readers bytes ≡ Ok script
+      → IsTableText columns (rows_of (puts_of script.batches)) (rows_text columns (rows_of (puts_of script.batches)))
+  table_text readers bytes script is =
+      let rows = rows_of (puts_of script.batches) in
+      let keyed = entries_ascend columns readers bytes script is in
+      (entry_lines columns rows, row_count columns rows, all_named keyed.0 rows keyed.1, refl)
 
 module _ (columns : Columns) (files : Files) (puts : List Put) (before after : Outside) (result : Status) (told : before.files ≡ Some files) (ends : ScanEnds before after result)
     (stand : StandFor files first_generation columns (table_put puts)) where
@@ -102,24 +101,63 @@ module _ (columns : Columns) (files : Files) (puts : List Put) (before after : O
   all_printed : result ≡ status.Ok → WhereTold before.written after.written (λ old new. new ≡ old ++ rows_text columns (rows_of puts))
   all_printed ok = subst (λ (r : Status). WhereTold before.written after.written (ScanPrints columns r (rows_of puts) before.sink_faults after.sink_faults)) ok prints
 
-  all_puts : (bytes : List ℕ) → AreAcceptedLines columns 1 (lines_of bytes) puts → IsTableText columns (rows_of puts) (rows_text columns (rows_of puts)) → PrintsAllPuts columns bytes before after result
-  all_puts bytes are text = record {
-    puts = puts;
+  all_puts : (readers : ℕ) (bytes : List ℕ) (lines : List Line) → AreAcceptedLines columns readers 1 0 (lines_of bytes) lines → puts ≡ puts_of (batches_of lines)
+      → IsTableText columns (rows_of puts) (rows_text columns (rows_of puts)) → PrintsAllPuts columns readers bytes before after result
+  all_puts readers bytes lines are of text = record {
+    lines = lines;
     accepted = are;
-    printed = λ ok. told_so before.written after.written _ _ (λ old new is. (rows_text columns (rows_of puts), text, is)) (all_printed ok);
+    printed = λ ok. told_so before.written after.written _ _
+        (λ old new is. (rows_text columns (rows_of puts), subst (λ (ps : List Put). IsTableText columns (rows_of ps) (rows_text columns (rows_of puts))) of text, is)) (all_printed ok);
     complete = well;
   }
 
 -- what a `load` that ended Ok has done
-loaded_well : (columns : Columns) (bytes : List ℕ) (files : Files) (before after : Outside) → before.left ≡ Some bytes → after.files ≡ Some files → LoadEnds columns before after status.Ok
-    → (puts : List Put) × (loading columns bytes ≡ Ok puts) × StandFor files first_generation columns (table_put puts)
-loaded_well columns bytes files before after left there ends =
-    let done : LoadPrints columns (loading columns bytes) before.files after.files status.Ok before.written after.written =
-    subst (λ (o : Option (List ℕ)). IfSome o (λ bs. EndsLoad columns (loading columns bs) before.files after.files status.Ok before.written after.written)) left ends.done in
-    (done.0, done.2, subst (λ (o : Option Files). IfSome o (λ new. StandFor new first_generation columns (table_put done.0))) there done.3.stand)
+module _ (asked : LoadAsked) (bytes : List ℕ) (before after : Outside) (left : before.left ≡ Some bytes) (ends : LoadEnds asked before after status.Ok) where
+  done : (script : Script) × (line : List ℕ) × (loading asked bytes ≡ Ok script) × Loaded asked.columns (puts_of script.batches) before.files after.files line
+  done =
+      subst (λ (o : Option (List ℕ)). IfSome o (λ bs. status.Ok ≡ status.Ok
+      → (script : Script) × (line : List ℕ) × (loading asked bs ≡ Ok script) × Loaded asked.columns (puts_of script.batches) before.files after.files line)) left ends.done refl
 
-pub headline : Headline
-headline words words' columns bytes files before between between' after result ask ask' left there also first second =
-    let done = loaded_well columns bytes files before between left there (first.load columns ask) in
-    let script = accepted (script_of columns bytes) done.0 done.1 in
-    all_puts columns files done.0 between' after result also (second.scan ask') done.2 bytes (said columns bytes done.0 script) (table_text columns bytes done.0 script)
+  taken : script_of asked.columns asked.readers bytes ≡ Ok done.0
+  taken = accepted (script_of asked.columns asked.readers bytes) done.0 done.2
+
+  stands : (files : Files) → after.files ≡ Some files → StandFor files first_generation asked.columns (table_put (puts_of done.0.batches))
+  stands files there = subst (λ (o : Option Files). IfSome o (λ new. StandFor new first_generation asked.columns (table_put (puts_of done.0.batches)))) there done.3.stand
+
+  written : WhereTold before.written after.written (WritesLoad asked (loading asked bytes) before.files after.files status.Ok before.sink_faults after.sink_faults)
+  written =
+      subst (λ (o : Option (List ℕ)). IfSome o (λ bs. WhereTold before.written after.written
+      (WritesLoad asked (loading asked bs) before.files after.files status.Ok before.sink_faults after.sink_faults))) left ends.written
+
+  -- a legal text of the script that is expected is one of the lines' batches
+  answered : (lines : List Line) → done.0.batches ≡ batches_of lines → (old new : List ℕ)
+      → WritesLoad asked (loading asked bytes) before.files after.files status.Ok before.sink_faults after.sink_faults old new
+      → (text : List ℕ) × (last : List ℕ) × IsLegalText asked.columns asked.bounds (batches_of lines) text × (new ≡ old ++ (text ++ last))
+  answered lines of old new (whole, (script, text, line, is, legal, loaded, parts), e) =
+      let both : ◌≡◌ {A = Result Script Status} (Ok script) (Ok done.0) = sym is ∙ done.2 in
+      let same : script ≡ done.0 = cc in (
+        text,
+        line,
+        subst (λ (bs : List Batch). IsLegalText asked.columns asked.bounds bs text) (ap (λ (s : Script). s.batches) same ∙ of) legal,
+        e ∙ ap (λ (l : List ℕ). old ++ l) parts,
+      )
+
+  pub answers_all : AnswersAllGets asked bytes before after
+  answers_all =
+      let lines = said asked.columns asked.readers bytes done.0 taken in record {
+        lines = lines.0;
+        accepted = lines.1;
+        printed = told_so before.written after.written _ _ (answered lines.0 lines.2) written;
+      }
+
+pub reads : HeadlineOfReads
+reads words asked bytes before after ask left ends = answers_all asked bytes before after left (ends.load asked ask)
+
+pub files_scanned : HeadlineOfFiles
+files_scanned words words' asked bytes files before between between' after result ask ask' left there also first second =
+    let ends = first.load asked ask in
+    let script = done asked bytes before between left ends in
+    let is = taken asked bytes before between left ends in
+    let lines = said asked.columns asked.readers bytes script.0 is in
+    all_puts asked.columns files (puts_of script.0.batches) between' after result also (second.scan ask') (stands asked bytes before between left ends files there) asked.readers bytes lines.0 lines.1
+    (ap puts_of lines.2) (table_text asked.columns asked.readers bytes script.0 is)

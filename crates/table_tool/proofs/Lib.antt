@@ -14,3 +14,5 @@ pub mod Told
 mod RunLemmas
 mod Headline
 mod ListLemmas
+mod RunPuts
+mod LoadLemmas

@@ -1,5 +1,5 @@
 -- What `load` leaves and says where its files were added.
-use Rattle.std.proofs.Common.{◌≡◌, ℕ, ◌≤◌, List, length, map, Option, None, Some, Ok, IfSome, inl, inr, refl, ◌∙◌, sym, ap, subst}
+use Rattle.std.proofs.Common.{◌≡◌, ℕ, ◌≤◌, List, length, map, Option, None, Some, Result, Ok, IfSome, inl, inr, refl, ◌∙◌, sym, ap, subst}
 use Rattle.std.specs.Prelude.{T}
 use Rattle.std.specs.FinMap.Entries.{is_sorted}
 use Rattle.outside.specs.Told.{WhereTold}
@@ -8,6 +8,9 @@ use Rattle.key_types.specs.Columns.{Columns}
 use Rattle.key_types.specs.Table.{Entry, string_cmp}
 use Rattle.data_file.specs.Listing.{Partition}
 use Rattle.script_text.specs.Puts.{Put}
+use Rattle.script_text.specs.Script.{puts_of}
+use Rattle.script_text.specs.declared.script.Script.{Script}
+use Rattle.table_tool.specs.declared.status.Status.{Status}
 use Rattle.table_files.specs.SchemaFile.{HaveSchemaFile}
 use Rattle.table_files.specs.Standing.{StandFor}
 use Rattle.flush_walk.specs.Given.{Flushing, TakesEntries, map_entry, nothing_given, partitions_given}
@@ -24,17 +27,20 @@ use Rattle.flush_walk.proofs.Fed.{count_all, entries_back, entries_taken, no_tab
 use Rattle.table_tool.proofs.RowLemmas.{rows_sorted}
 use Rattle.table_tool.proofs.Told.{told_none, told_so}
 
-pub no_changes : (columns : Columns) (puts : List Put) (f : Option Files) → WhereTold f f (ChangesFiles columns (Ok puts))
-no_changes columns puts f = told_none f _ (λ xs. inl refl)
+pub no_changes : (columns : Columns) (expected : Result Script Status) (f : Option Files) → WhereTold f f (ChangesFiles columns expected)
+no_changes columns expected f = told_none f _ (λ xs. inl refl)
 
-sorted : (puts : List Put) (rows : List Entry) → rows ≡ rows_of puts → T (is_sorted string_cmp rows)
+pub sorted : (puts : List Put) (rows : List Entry) → rows ≡ rows_of puts → T (is_sorted string_cmp rows)
 sorted puts rows is = subst (λ (es : List Entry). T (is_sorted string_cmp es)) (sym is) (rows_sorted puts)
 
 pub rows_taken : (columns : Columns) (puts : List Put) (rows : List Entry) (files : Option Files) → rows ≡ rows_of puts → AreTableEntries columns rows → length rows ≤ 1000000
     → TakesEntries (nothing_given first_generation columns files) (map (given_in columns) rows)
 rows_taken columns puts rows files is are few = entries_taken first_generation columns files rows are (sorted puts rows is) few
 
-module _ (columns : Columns) (puts : List Put) (rows : List Entry) (f0 f1 : Option Files) (is : rows ≡ rows_of puts) (are : AreTableEntries columns rows) (few : length rows ≤ 1000000) where
+module _ (columns : Columns) (script : Script) (rows : List Entry) (f0 f1 : Option Files) (is : rows ≡ rows_of (puts_of script.batches)) (are : AreTableEntries columns rows) (few : length rows ≤ 1000000) where
+  abbrev puts : List Put
+  puts = puts_of script.batches
+
   abbrev all : Flushing
   all = all_given first_generation columns f0 rows
 
@@ -62,23 +68,23 @@ module _ (columns : Columns) (puts : List Put) (rows : List Entry) (f0 f1 : Opti
       (subst (λ (g : ℕ). WhereTold all.before f1 (AddsFour g (files_of_table columns partitions))) generation_is
       (subst (λ (cs : Columns). WhereTold all.before f1 (AddsFour all.generation (files_of_table cs partitions))) columns_are h))
 
-  begun_of : WhereTold all.before f1 (λ old new. Begun columns partitions old new) → WhereTold f0 f1 (ChangesFiles columns (Ok puts))
+  begun_of : WhereTold all.before f1 (λ old new. Begun columns partitions old new) → WhereTold f0 f1 (ChangesFiles columns (Ok script))
   begun_of h =
-      told_so f0 f1 _ _ (λ old new b. inr (puts, partitions, refl, are_of, b))
+      told_so f0 f1 _ _ (λ old new b. inr (script, partitions, refl, are_of, b))
       (subst (λ (f : Option Files). WhereTold f f1 (λ old new. Begun columns partitions old new)) before_is h)
 
   -- the files were begun
-  pub stopped_changes : BeginsFiles all partitions f1 → WhereTold f0 f1 (ChangesFiles columns (Ok puts))
+  pub stopped_changes : BeginsFiles all partitions f1 → WhereTold f0 f1 (ChangesFiles columns (Ok script))
   stopped_changes begins =
       begun_of
       (subst (λ (g : ℕ). BeginsFiles (record all { generation = g; columns = columns }) partitions f1) generation_is
       (subst (λ (cs : Columns). BeginsFiles (record all { columns = cs }) partitions f1) columns_are begins))
 
   -- the files were added
-  pub added_changes : WhereTold all.before f1 (AddsFour all.generation (files_of_table all.columns partitions)) → WhereTold f0 f1 (ChangesFiles columns (Ok puts))
+  pub added_changes : WhereTold all.before f1 (AddsFour all.generation (files_of_table all.columns partitions)) → WhereTold f0 f1 (ChangesFiles columns (Ok script))
   added_changes adds =
       let four = files_of_table columns partitions in
-      told_so f0 f1 _ _ (λ old new h. inr (puts, partitions, refl, are_of, (four, all_begun four, added_have first_generation four old new h))) (added adds)
+      told_so f0 f1 _ _ (λ old new h. inr (script, partitions, refl, are_of, (four, all_begun four, added_have first_generation four old new h))) (added adds)
 
   stands_one : HaveSchemaFile columns → (new : Files) → StandForGiven all new → StandFor new first_generation columns (table_put puts)
   stands_one have new stand =

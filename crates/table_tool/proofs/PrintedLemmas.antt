@@ -1,5 +1,5 @@
 -- The line of an entry names the components of which its key's string is put together.
-use Rattle.std.proofs.Common.{◌≡◌, ℕ, ◌+◌, ◌≤◌, length, Bool, true, false, List, [], ◌∷◌, ◌++◌, Option, Some, None, Result, Ok, Err, OnOk, refl, sym, ◌∙◌, ap, arith, append_assoc}
+use Rattle.std.proofs.Common.{◌≡◌, ℕ, ◌+◌, ◌≤◌, length, Bool, true, false, List, [], ◌∷◌, ◌++◌, Option, Some, None, Result, Ok, Err, OnOk, refl, sym, subst, ◌∙◌, ap, arith, append_assoc}
 use Rattle.std.proofs.lemmas.List.{append-nil}
 use Rattle.std.specs.Prelude.{codes, if◌then◌else◌}
 use Rattle.key_types.specs.declared.schema.ValueType.{ValueType}
@@ -12,9 +12,11 @@ use Rattle.key_decode.specs.Reading.{values_at}
 use Rattle.key_decode.proofs.Known.{read_key}
 use Rattle.key_text.specs.Written.{equals_literal}
 use Rattle.key_printing.specs.Texts.{IsTextOf, PutsText}
-use Rattle.flush_walk.specs.Entries.{has_some, is_row, rest_behind, row_at, row_count}
-use Rattle.flush_walk.proofs.PartsLemmas.{some_key}
-use Rattle.table_tool.specs.Lines.{EndsLine}
+use Rattle.flush_walk.specs.Entries.{clustering_in, has_some, is_row, partition_in, rest_behind, row_at, row_count}
+use Rattle.flush_walk.specs.TableEntries.{AreTableEntries}
+use Rattle.flush_walk.proofs.PartsLemmas.{some_key, some_string}
+use Rattle.key_decode.specs.Strings.{IsStringOf}
+use Rattle.table_tool.specs.Lines.{EndsLine, HoldsText}
 use Rattle.table_tool.specs.Printed.{entry_line, entry_lines, line_behind, line_by, row_by, row_line, static_by, static_line}
 use Rattle.table_files.specs.Standing.{static_entries}
 
@@ -129,3 +131,35 @@ module _ (columns : Columns) where
       one_row : (b : Bool) → (if b then 1 else 0) ≤ 1
       one_row true = omega arith
       one_row false = omega arith
+
+-- ---- entries one behind the other
+
+-- the text of the same partition is kept
+pub text_kept : (kinds : Kinds) (last partition text : List ℕ) → IsStringOf kinds partition → HoldsText kinds last text → last ≡ partition → IsTextOf kinds partition text
+text_kept kinds last partition text string holds same =
+    subst (λ (s : List ℕ). IsTextOf kinds s text) same (holds (λ e. let some = some_string kinds partition string in let none : has_some partition ≡ false = ap has_some (sym same ∙ e) in let both = sym some ∙ none in cc))
+
+module _ (columns : Columns) (left left' : List Entry) (key value partition clustering : List ℕ) (next : left ≡ (key, value) ∷ left') (is_partition : partition ≡ partition_in columns key)
+    (is_clustering : clustering ≡ clustering_in columns key) (are : AreTableEntries columns left) where
+  first_are : AreTableEntries columns ((key, value) ∷ left')
+  first_are = subst (AreTableEntries columns) next are
+
+  pub rest_are : AreTableEntries columns left'
+  rest_are = first_are.1
+
+  parts : partition ++ clustering ≡ key
+  parts = ap (λ (p : List ℕ). p ++ clustering) is_partition ∙ ap (λ (c : List ℕ). partition_in columns key ++ c) is_clustering ∙ first_are.0.parts
+
+  -- the line of the next entry is behind the others
+  pub next_line : (out out' all : List ℕ) → out' ≡ out ++ entry_line columns (partition ++ clustering, value) → out ++ entry_lines columns left ≡ all → out' ++ entry_lines columns left' ≡ all
+  next_line out out' all is lines =
+      ap (λ (o : List ℕ). o ++ entry_lines columns left') (is ∙ ap (λ (k : List ℕ). out ++ entry_line columns (k, value)) parts)
+      ∙ append_assoc out (entry_line columns (key, value)) (entry_lines columns left')
+      ∙ ap (λ (es : List Entry). out ++ entry_lines columns es) (sym next) ∙ lines
+
+  -- and it is counted
+  pub next_count : (count step all : ℕ) → step ≡ row_at clustering → count + row_count columns left ≡ all → (count + step) + row_count columns left' ≡ all
+  next_count count step all is counted =
+      let first : row_count columns left ≡ row_at (clustering_in columns key) + row_count columns left' = ap (row_count columns) next in
+      let own : step ≡ row_at (clustering_in columns key) = is ∙ ap row_at is_clustering in
+      omega (arith, first, own, counted)

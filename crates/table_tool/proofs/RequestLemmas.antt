@@ -1,16 +1,24 @@
 -- What the words ask for, and nothing else.
 use Rattle.std.proofs.Common.{◌≡◌, ℕ, Bool, arith, List, map, Result, Ok, Err, inl, inr, refl, sym, ◌∙◌, ap, subst}
-use Rattle.std.specs.Prelude.{string_bytes}
+use Rattle.std.specs.Prelude.{string_bytes, ◌⊎◌}
 use Rattle.std.specs.declared.string.String.{String}
 use Rattle.std.specs.declared.alloc.Global.{Global}
 use Rattle.key_types.specs.Columns.{Columns}
 use Rattle.schema_text.proofs.Short.{short}
 use Rattle.schema_text.proofs.Unique.{one}
-use Rattle.command_line.specs.Said.{Said, key, list, load, scan}
+use Rattle.command_line.specs.Said.{Said, Way, key, list, load, scan}
 use Rattle.command_line.specs.Reading.{command_of}
 use Rattle.command_line.specs.declared.command.WordsError.TheVariants as error
 use Rattle.command_line.specs.declared.command.WordsError.{WordsError}
-use Rattle.table_tool.specs.Request.{AreLoad, AreRefused, AskKey, AskList, AskLoad, AskScan, IsSchemaOf, Say, part_kinds, said_way}
+use Rattle.bounds_text.proofs.Standing.{one_text}
+use Rattle.bounds_text.specs.Bounds.{IsBoundsText, OneBoundsText}
+use Rattle.table_tool.specs.Loading.{LoadAsked}
+use Rattle.command_line.specs.Said.{said_of, way_of}
+use Rattle.command_line.specs.declared.command.Command.TheVariants as command
+use Rattle.command_line.specs.declared.command.KeyArguments.{KeyArguments}
+use Rattle.table_tool.specs.declared.request.Request.{Request}
+use Rattle.table_tool.specs.declared.request.Request.TheVariants as request
+use Rattle.table_tool.specs.Request.{AreLoad, AreRefused, AskKey, AskList, AskLoad, AskScan, Asks, IsNoSchema, IsSchemaOf, ReadsKey, ReadsSchema, Say, SayLoad, part_kinds, said_way}
 use Rattle.key_types.specs.Kinds.{Kinds}
 use Rattle.key_tool.specs.declared.request.KeyWay.{KeyWay}
 use Rattle.key_tool.specs.declared.request.KeyWay.TheVariants.{Encode, Decode}
@@ -19,48 +27,71 @@ use Rattle.table_files.specs.SchemaFile.{HaveSchemaFile}
 same_said : (r : Result Said WordsError) (a b : Said) → r ≡ Ok a → r ≡ Ok b → a ≡ b
 same_said r a b e f = let both : ◌≡◌ {A = Result Said WordsError} (Ok a) (Ok b) = sym e ∙ f in cc
 
+one_bounds : OneBoundsText
+one_bounds = one_text
+
 -- a text is of one schema
 one_schema_of : (text : List ℕ) (c d : Columns) → IsSchemaOf text c → IsSchemaOf text d → c ≡ d
 one_schema_of text c d is also = one c d text is.is also.is
 
-module _ (words : List (String Global)) (columns : Columns) where
-  -- ---- `list`
+-- ---- `list`
 
-  pub list_one : AskList words columns → (others : Columns) → AskList words others → columns ≡ others
-  list_one (text, say, is) others (text', say', is') =
-      let texts : list text ≡ list text' = same_said _ _ _ say say' in
+module _ (words : List (String Global)) (columns : Columns) (cells : ℕ) where
+  pub list_one : AskList words columns cells → (others : Columns) (more : ℕ) → AskList words others more → (columns ≡ others) × (cells ≡ more)
+  list_one (text, say, is) others more (text', say', is') =
+      let texts : list text cells ≡ list text' more = same_said _ _ _ say say' in
       let same : text ≡ text' = cc in
-      one_schema_of text' columns others (subst (λ (t : List ℕ). IsSchemaOf t columns) same is) is'
+      let count : cells ≡ more = cc in
+      (one_schema_of text' columns others (subst (λ (t : List ℕ). IsSchemaOf t columns) same is) is', count)
 
-  pub list_not_refused : AskList words columns → AreRefused words → ⊥
+  pub list_not_refused : AskList words columns cells → AreRefused words → ⊥
   list_not_refused (text, say, is) (inl e) = let both = sym say ∙ e in cc
-  list_not_refused (text, say, is) (inr (text', inl say', none)) =
-      let texts : list text ≡ list text' = same_said _ _ _ say say' in
+  list_not_refused (text, say, is) (inr (inl (text', inl (more, say'), none))) =
+      let texts : list text cells ≡ list text' more = same_said _ _ _ say say' in
       let same : text ≡ text' = cc in
       none columns (subst (λ (t : List ℕ). IsSchemaOf t columns) same is)
-  list_not_refused (text, say, is) (inr (text', inr (inl say'), none)) = let texts : list text ≡ load text' = same_said _ _ _ say say' in cc
-  list_not_refused (text, say, is) (inr (text', inr (inr (clustering, way, say')), none)) = let texts : list text ≡ key text' clustering way = same_said _ _ _ say say' in cc
+  list_not_refused (text, say, is) (inr (inl (text', inr (inl (bounds, more, readers, say')), none))) =
+      let texts : list text cells ≡ load text' bounds more readers = same_said _ _ _ say say' in cc
+  list_not_refused (text, say, is) (inr (inl (text', inr (inr (clustering, way, say')), none))) =
+      let texts : list text cells ≡ key text' clustering way = same_said _ _ _ say say' in cc
+  list_not_refused (text, say, is) (inr (inr (others, bounds, (text', more, readers, say', is'), none))) =
+      let texts : list text cells ≡ load text' bounds more readers = same_said _ _ _ say say' in cc
 
-  -- ---- `load`
+-- ---- `load`
 
-  pub load_one : AskLoad words columns → (others : Columns) → AskLoad words others → columns ≡ others
-  load_one (text, say, is) others (text', say', is') =
-      let texts : load text ≡ load text' = same_said _ _ _ say say' in
+module _ (words : List (String Global)) (asked : LoadAsked) where
+  pub load_one : AskLoad words asked → (others : LoadAsked) → AskLoad words others → asked ≡ others
+  load_one (text, bounds, say, is, of) others (text', bounds', say', is', of') =
+      let texts : load text bounds asked.cells asked.readers ≡ load text' bounds' others.cells others.readers = same_said _ _ _ say say' in
       let same : text ≡ text' = cc in
-      one_schema_of text' columns others (subst (λ (t : List ℕ). IsSchemaOf t columns) same is) is'
+      let bound : bounds ≡ bounds' = cc in
+      let cells : asked.cells ≡ others.cells = cc in
+      let readers : asked.readers ≡ others.readers = cc in
+      let columns = one_schema_of text' asked.columns others.columns (subst (λ (t : List ℕ). IsSchemaOf t asked.columns) same is) is' in
+      let strings = one_bounds others.columns bounds' asked.bounds others.bounds
+      (subst (λ (c : Columns). IsBoundsText c bounds' asked.bounds) columns (subst (λ (t : List ℕ). IsBoundsText asked.columns t asked.bounds) bound of)) of' in
+      λ i. record { columns = columns i; bounds = strings i; cells = cells i; readers = readers i }
 
-  pub load_not_refused : AskLoad words columns → AreRefused words → ⊥
-  load_not_refused (text, say, is) (inl e) = let both = sym say ∙ e in cc
-  load_not_refused (text, say, is) (inr (text', inr (inl say'), none)) =
-      let texts : load text ≡ load text' = same_said _ _ _ say say' in
+  pub load_not_refused : AskLoad words asked → AreRefused words → ⊥
+  load_not_refused (text, bounds, say, is, of) (inl e) = let both = sym say ∙ e in cc
+  load_not_refused (text, bounds, say, is, of) (inr (inl (text', inl (more, say'), none))) =
+      let texts : load text bounds asked.cells asked.readers ≡ list text' more = same_said _ _ _ say say' in cc
+  load_not_refused (text, bounds, say, is, of) (inr (inl (text', inr (inl (bounds', more, readers, say')), none))) =
+      let texts : load text bounds asked.cells asked.readers ≡ load text' bounds' more readers = same_said _ _ _ say say' in
       let same : text ≡ text' = cc in
-      none columns (subst (λ (t : List ℕ). IsSchemaOf t columns) same is)
-  load_not_refused (text, say, is) (inr (text', inr (inr (clustering, way, say')), none)) = let texts : load text ≡ key text' clustering way = same_said _ _ _ say say' in cc
-  load_not_refused (text, say, is) (inr (text', inl say', none)) = let texts : load text ≡ list text' = same_said _ _ _ say say' in cc
+      none asked.columns (subst (λ (t : List ℕ). IsSchemaOf t asked.columns) same is)
+  load_not_refused (text, bounds, say, is, of) (inr (inl (text', inr (inr (clustering, way, say')), none))) =
+      let texts : load text bounds asked.cells asked.readers ≡ key text' clustering way = same_said _ _ _ say say' in cc
+  load_not_refused (text, bounds, say, is, of) (inr (inr (others, bounds', (text', more, readers, say', is'), none))) =
+      let texts : load text bounds asked.cells asked.readers ≡ load text' bounds' more readers = same_said _ _ _ say say' in
+      let same : text ≡ text' = cc in
+      let bound : bounds ≡ bounds' = cc in
+      let columns = one_schema_of text' asked.columns others (subst (λ (t : List ℕ). IsSchemaOf t asked.columns) same is) is' in
+      none asked.bounds (subst (λ (c : Columns). IsBoundsText c bounds' asked.bounds) columns (subst (λ (t : List ℕ). IsBoundsText asked.columns t asked.bounds) bound of))
 
--- its text is short enough for Schema.txt
-pub load_columns : (words : List (String Global)) (columns : Columns) → AskLoad words columns → HaveSchemaFile columns
-load_columns words columns (text, say, is) = (is.bounds, (let long = short columns text is.is in let few = is.short in omega arith))
+-- a schema's text is short enough for Schema.txt
+pub short_schema : (text : List ℕ) (columns : Columns) → IsSchemaOf text columns → HaveSchemaFile columns
+short_schema text columns is = (is.bounds, (let long = short columns text is.is in let few = is.short in omega arith))
 
 -- ---- `key`
 
@@ -85,49 +116,106 @@ module _ (words : List (String Global)) (kinds : Kinds) (way : KeyWay) (text : L
 -- ---- words ask for one command
 
 module _ (words : List (String Global)) where
-  pub list_not_load : (columns others : Columns) → AskList words columns → AskLoad words others → ⊥
-  list_not_load columns others (text, say, is) (text', say', is') = let texts : list text ≡ load text' = same_said _ _ _ say say' in cc
+  pub list_not_load : (columns : Columns) (cells : ℕ) (others : LoadAsked) → AskList words columns cells → AskLoad words others → ⊥
+  list_not_load columns cells others (text, say, is) (text', bounds, say', is', of) =
+      let texts : list text cells ≡ load text' bounds others.cells others.readers = same_said _ _ _ say say' in cc
 
-  pub list_not_scan : (columns : Columns) → AskList words columns → AskScan words → ⊥
-  list_not_scan columns (text, say, is) say' = let texts : list text ≡ scan = same_said _ _ _ say say' in cc
+  pub list_not_scan : (columns : Columns) (cells : ℕ) → AskList words columns cells → AskScan words → ⊥
+  list_not_scan columns cells (text, say, is) say' = let texts : list text cells ≡ scan = same_said _ _ _ say say' in cc
 
-  pub list_not_key : (columns : Columns) (kinds : Kinds) (way : KeyWay) (text : List ℕ) → AskList words columns → AskKey words kinds way text → ⊥
-  list_not_key columns kinds way text (list_text, say, is) (schema, others, clustering, say', is', of) =
-      let texts : list list_text ≡ key schema clustering (said_way way text) = same_said _ _ _ say say' in cc
+  pub list_not_key : (columns : Columns) (cells : ℕ) (kinds : Kinds) (way : KeyWay) (text : List ℕ) → AskList words columns cells → AskKey words kinds way text → ⊥
+  list_not_key columns cells kinds way text (list_text, say, is) (schema, others, clustering, say', is', of) =
+      let texts : list list_text cells ≡ key schema clustering (said_way way text) = same_said _ _ _ say say' in cc
 
-  pub load_not_scan : (columns : Columns) → AskLoad words columns → AskScan words → ⊥
-  load_not_scan columns (text, say, is) say' = let texts : load text ≡ scan = same_said _ _ _ say say' in cc
+  pub load_not_scan : (asked : LoadAsked) → AskLoad words asked → AskScan words → ⊥
+  load_not_scan asked (text, bounds, say, is, of) say' = let texts : load text bounds asked.cells asked.readers ≡ scan = same_said _ _ _ say say' in cc
 
-  pub load_not_key : (columns : Columns) (kinds : Kinds) (way : KeyWay) (text : List ℕ) → AskLoad words columns → AskKey words kinds way text → ⊥
-  load_not_key columns kinds way text (load_text, say, is) (schema, others, clustering, say', is', of) =
-      let texts : load load_text ≡ key schema clustering (said_way way text) = same_said _ _ _ say say' in cc
+  pub load_not_key : (asked : LoadAsked) (kinds : Kinds) (way : KeyWay) (text : List ℕ) → AskLoad words asked → AskKey words kinds way text → ⊥
+  load_not_key asked kinds way text (load_text, bounds, say, is, of) (schema, others, clustering, say', is', of') =
+      let texts : load load_text bounds asked.cells asked.readers ≡ key schema clustering (said_way way text) = same_said _ _ _ say say' in cc
 
   pub scan_not_key : (kinds : Kinds) (way : KeyWay) (text : List ℕ) → AskScan words → AskKey words kinds way text → ⊥
   scan_not_key kinds way text say (schema, others, clustering, say', is', of) =
       let texts : scan ≡ key schema clustering (said_way way text) = same_said _ _ _ say say' in cc
 
+  -- words that say something else than `list`, `load` and `key` aren't refused by a text
+  abbrev IsOther : Said → Type 0
+  IsOther said = ((text : List ℕ) (cells : ℕ) → said ≡ list text cells → ⊥) × ((text bounds : List ℕ) (cells readers : ℕ) → said ≡ load text bounds cells readers → ⊥)
+      × ((text : List ℕ) (clustering : Bool) (way : Way) → said ≡ key text clustering way → ⊥)
+
+  other_not_refused : (said : Said) → IsOther said → Say words said → AreRefused words → ⊥
+  other_not_refused said other say (inl e) = let both = sym say ∙ e in cc
+  other_not_refused said other say (inr (inl (text, inl (cells, say'), none))) = other.0 text cells (same_said _ said (list text cells) say say')
+  other_not_refused said other say (inr (inl (text, inr (inl (bounds, cells, readers, say')), none))) =
+      other.1 text bounds cells readers (same_said _ said (load text bounds cells readers) say say')
+  other_not_refused said other say (inr (inl (text, inr (inr (clustering, way, say')), none))) = other.2 text clustering way (same_said _ said (key text clustering way) say say')
+  other_not_refused said other say (inr (inr (others, bounds, (text, cells, readers, say', is'), none))) =
+      other.1 text bounds cells readers (same_said _ said (load text bounds cells readers) say say')
+
   pub scan_not_refused : AskScan words → AreRefused words → ⊥
-  scan_not_refused say (inl e) = let both = sym say ∙ e in cc
-  scan_not_refused say (inr (text, inl say', none)) = let texts : scan ≡ list text = same_said _ _ _ say say' in cc
-  scan_not_refused say (inr (text, inr (inl say'), none)) = let texts : scan ≡ load text = same_said _ _ _ say say' in cc
-  scan_not_refused say (inr (text, inr (inr (clustering, way, say')), none)) = let texts : scan ≡ key text clustering way = same_said _ _ _ say say' in cc
+  scan_not_refused say are = other_not_refused scan (λ text cells e. cc, λ text bounds cells readers e. cc, λ text clustering way e. cc) say are
 
   pub key_not_refused : (kinds : Kinds) (way : KeyWay) (text : List ℕ) → AskKey words kinds way text → AreRefused words → ⊥
   key_not_refused kinds way text (schema, columns, clustering, say, is, of) (inl e) = let both = sym say ∙ e in cc
-  key_not_refused kinds way text (schema, columns, clustering, say, is, of) (inr (other, inl say', none)) =
-      let texts : key schema clustering (said_way way text) ≡ list other = same_said _ _ _ say say' in cc
-  key_not_refused kinds way text (schema, columns, clustering, say, is, of) (inr (other, inr (inl say'), none)) =
-      let texts : key schema clustering (said_way way text) ≡ load other = same_said _ _ _ say say' in cc
-  key_not_refused kinds way text (schema, columns, clustering, say, is, of) (inr (other, inr (inr (clustering', way', say')), none)) =
+  key_not_refused kinds way text (schema, columns, clustering, say, is, of) (inr (inl (other, inl (cells, say'), none))) =
+      let texts : key schema clustering (said_way way text) ≡ list other cells = same_said _ _ _ say say' in cc
+  key_not_refused kinds way text (schema, columns, clustering, say, is, of) (inr (inl (other, inr (inl (bounds, cells, readers, say')), none))) =
+      let texts : key schema clustering (said_way way text) ≡ load other bounds cells readers = same_said _ _ _ say say' in cc
+  key_not_refused kinds way text (schema, columns, clustering, say, is, of) (inr (inl (other, inr (inr (clustering', way', say')), none))) =
       let texts : key schema clustering (said_way way text) ≡ key other clustering' way' = same_said _ _ _ say say' in
       let same : schema ≡ other = cc in
       none columns (subst (λ (t : List ℕ). IsSchemaOf t columns) same is)
+  key_not_refused kinds way text (schema, columns, clustering, say, is, of) (inr (inr (others, bounds, (other, cells, readers, say', is'), none))) =
+      let texts : key schema clustering (said_way way text) ≡ load other bounds cells readers = same_said _ _ _ say say' in cc
 
 -- ---- whether the words say `load`
 
 module _ (words : List (String Global)) where
-  pub says_other : (said : Said) → Say words said → ((text : List ℕ) → said ≡ load text → ⊥) → ¬ (AreLoad words)
-  says_other said say other (columns, (text, say', is)) = other text (same_said _ said (load text) say say')
+  pub says_other : (said : Said) → Say words said → ((text bounds : List ℕ) (cells readers : ℕ) → said ≡ load text bounds cells readers → ⊥) → ¬ (AreLoad words)
+  says_other said say other (asked, (text, bounds, say', is, of)) =
+      other text bounds asked.cells asked.readers (same_said _ said (load text bounds asked.cells asked.readers) say say')
 
   pub says_none : command_of (map string_bytes words) ≡ Err error.Usage → ¬ (AreLoad words)
-  says_none none (columns, (text, say', is)) = let both = sym none ∙ say' in cc
+  says_none none (asked, (text, bounds, say', is, of)) = let both = sym none ∙ say' in cc
+
+  -- words that say `load`, or are refused, ask for no other command
+  pub load_no_list : SayLoad words ⊎ AreRefused words → (columns : Columns) (cells : ℕ) → AskList words columns cells → ⊥
+  load_no_list (inl (text, bounds, cells', readers, say')) columns cells (list_text, say, is) =
+      let texts : list list_text cells ≡ load text bounds cells' readers = same_said _ _ _ say say' in cc
+  load_no_list (inr are) columns cells ask = list_not_refused words columns cells ask are
+
+  pub load_no_scan : SayLoad words ⊎ AreRefused words → AskScan words → ⊥
+  load_no_scan (inl (text, bounds, cells, readers, say')) say = let texts : scan ≡ load text bounds cells readers = same_said _ _ _ say say' in cc
+  load_no_scan (inr are) ask = scan_not_refused words ask are
+
+  pub load_no_key : SayLoad words ⊎ AreRefused words → (kinds : Kinds) (way : KeyWay) (text : List ℕ) → AskKey words kinds way text → ⊥
+  load_no_key (inl (load_text, bounds, cells, readers, say')) kinds way text (schema, columns, clustering, say, is, of) =
+      let texts : key schema clustering (said_way way text) ≡ load load_text bounds cells readers = same_said _ _ _ say say' in cc
+  load_no_key (inr are) kinds way text ask = key_not_refused words kinds way text ask are
+
+-- ---- what is answered
+
+module _ (words : List (String Global)) where
+  -- a text that is refused as the schema of a `list`, or of a `load`
+  pub refused_list : (text shown : List ℕ) (cells : ℕ) (r : Result Request WordsError) (e : WordsError) → r ≡ Err e → shown ≡ text → Say words (list text cells) → ReadsSchema shown (Err e) → Asks words r
+  refused_list text shown cells r error.Usage is same say none =
+      subst (Asks words) (sym is) (inr (inl (text, inl (cells, say), subst IsNoSchema same none)))
+  refused_list text shown cells r error.NoMemory is same say none = subst (Asks words) (sym is) tt
+
+  pub refused_load : (text shown bounds : List ℕ) (cells readers : ℕ) (r : Result Request WordsError) (e : WordsError) → r ≡ Err e → shown ≡ text → Say words (load text bounds cells readers)
+      → ReadsSchema shown (Err e) → Asks words r
+  refused_load text shown bounds cells readers r error.Usage is same say none =
+      subst (Asks words) (sym is) (inr (inl (text, inr (inl (bounds, cells, readers, say)), subst IsNoSchema same none)))
+  refused_load text shown bounds cells readers r error.NoMemory is same say none = subst (Asks words) (sym is) tt
+
+  -- what the values of `key` ask for
+  pub asks_key : (arguments : KeyArguments) (r : Result Request WordsError) → Say words (said_of (command.Key arguments)) → ReadsKey arguments r → Asks words r
+  asks_key arguments (Ok (request.List asked)) say reads = absurd reads
+  asks_key arguments (Ok (request.Load asked)) say reads = absurd reads
+  asks_key arguments (Ok request.Scan) say reads = absurd reads
+  asks_key arguments (Ok (request.Key asked)) say (columns, is, kinds, way) =
+      (string_bytes arguments.schema, columns, arguments.clustering,
+       subst (λ (w : Way). Say words (key (string_bytes arguments.schema) arguments.clustering w)) way say, is, kinds)
+  asks_key arguments (Err error.Usage) say none =
+      inr (inl (string_bytes arguments.schema, inr (inr (arguments.clustering, way_of arguments.way, say)), none))
+  asks_key arguments (Err error.NoMemory) say reads = tt

@@ -19,7 +19,7 @@ use Rattle.script_text.specs.Puts.{Put}
 use Rattle.script_text.specs.declared.script.Script.{Script}
 use Rattle.script_text.specs.Script.{entries_of, entry_of_put, puts_of}
 use Rattle.script_text.specs.Laws.{ArePuts, IsAccepted, IsKeyString, IsSchemaPut, IsRowPut, IsStaticPut}
-use Rattle.script_text.proofs.Accepted.{accepted_script}
+use Rattle.script_text.proofs.Accepted.{accepted_puts, accepted_script}
 use Rattle.flush_walk.specs.Entries.{clustering_in}
 use Rattle.flush_walk.specs.Given.{IsBehindKey}
 use Rattle.flush_walk.specs.TableEntries.{AreTableEntries, IsTableEntry}
@@ -30,7 +30,7 @@ use Rattle.flush_walk.proofs.PartsLemmas.{parted, some_string}
 
 -- ---- they are entries of a table
 
-key_is_string : (ts : Kinds) (string : List ℕ) → IsKeyString ts string → IsStringOf ts string
+pub key_is_string : (ts : Kinds) (string : List ℕ) → IsKeyString ts string → IsStringOf ts string
 key_is_string ts string (vs, fits, e, short) = (vs, fitting ts vs fits (subst (λ (s : List ℕ). length s ≤ 1024) e short) ∙ ap Ok (sym e))
 
 row_behind : (columns : Columns) (clustering value : List ℕ) → IsKeyString columns.clustering clustering → IsValueOf columns.value value → IsBehindKey columns clustering value
@@ -99,15 +99,15 @@ rows_few puts = omega (arith, ap length (rows_after_is (entries_of puts)), after
 
 -- ---- of a script
 
-module _ (columns : Columns) where
-  pub script_accepted : (script : Script) → IsSpelled columns script → IsAccepted columns script
-  script_accepted script (text, is) = accepted_script columns text script is
+module _ (columns : Columns) (readers : ℕ) where
+  pub script_accepted : (script : Script) → 1 ≤ readers → IsSpelled columns readers script → IsAccepted columns readers script
+  script_accepted script some (text, is) = accepted_script columns readers text script some is
 
-  pub script_rows_are : (script : Script) (rows : List Entry) → IsSpelled columns script → rows ≡ rows_of (puts_of script.batches) → AreTableEntries columns rows
-  script_rows_are script rows h is = subst (AreTableEntries columns) (sym is) (rows_are columns (puts_of script.batches) (script_accepted script h).are)
+  pub script_rows_are : (script : Script) (rows : List Entry) → IsSpelled columns readers script → rows ≡ rows_of (puts_of script.batches) → AreTableEntries columns rows
+  script_rows_are script rows (text, is) same = subst (AreTableEntries columns) (sym same) (rows_are columns (puts_of script.batches) (accepted_puts columns readers text script is))
 
-  pub script_rows_few : (script : Script) (rows : List Entry) → IsSpelled columns script → rows ≡ rows_of (puts_of script.batches) → length rows ≤ 1000000
-  script_rows_few script rows h is = omega (arith, ap length is, rows_few (puts_of script.batches), (script_accepted script h).few)
+  pub script_rows_few : (script : Script) (rows : List Entry) → 1 ≤ readers → IsSpelled columns readers script → rows ≡ rows_of (puts_of script.batches) → length rows ≤ 1000000
+  script_rows_few script rows some h is = omega (arith, ap length is, rows_few (puts_of script.batches), (script_accepted script some h).few)
 
 pub rows_sorted : (puts : List Put) → T (is_sorted string_cmp (rows_of puts))
 rows_sorted puts = map.entries_sorted (table_of (entries_of puts))

@@ -41,6 +41,7 @@ abbrev pub fault_line : Status → List ℕ
 fault_line status.Usage = codes "error: usage\n"
 fault_line status.Key = codes "error: key\n"
 fault_line (status.BadLine line cause) = codes "error: line " ++ decimal line ++ codes ": " ++ cause_text cause ++ codes "\n"
+fault_line (status.Full line) = codes "error: line " ++ decimal line ++ codes ": shard full\n"
 fault_line status.SourceFault = codes "error: source fault\n"
 fault_line status.StoreFault = codes "error: store fault\n"
 fault_line (status.Damaged damage) =

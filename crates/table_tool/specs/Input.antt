@@ -22,9 +22,9 @@ ReadIs (Err NoMemory) bytes = Unit {0}
 abbrev pub Taken : Option (List ℕ) → Option (List ℕ) → List ℕ → Type 0
 Taken before now all = WhereTold before now (λ xs ys. xs ≡ all ++ ys)
 
--- the script is one that some bytes spell under these columns
-abbrev pub IsSpelled : Columns → Script → Type 0
-IsSpelled columns script = (bytes : List ℕ) × (script_of columns bytes ≡ Ok script)
+-- the script is one that some bytes spell under these columns, for so many readers
+abbrev pub IsSpelled : Columns → ℕ → Script → Type 0
+IsSpelled columns readers script = (bytes : List ℕ) × (script_of columns readers bytes ≡ Ok script)
 
 -- the script that is expected, unless the source failed or memory ran out
 abbrev pub TakesScript : Result Script Status → Result Script ScriptError → Type 0

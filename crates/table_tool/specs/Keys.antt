@@ -19,6 +19,7 @@ IsOfKey status.Ok = Unit {0}
 IsOfKey status.Usage = ⊥
 IsOfKey status.Key = Unit {0}
 IsOfKey (status.BadLine line cause) = ⊥
+IsOfKey (status.Full line) = ⊥
 IsOfKey status.SourceFault = ⊥
 IsOfKey status.SinkFault = Unit {0}
 IsOfKey status.StoreFault = ⊥

@@ -5,9 +5,12 @@ use Rattle.std.specs.declared.alloc.Global.{Global}
 use Rattle.outside.specs.Files.{Files}
 use Rattle.outside.specs.Told.{WhereTold}
 use Rattle.key_types.specs.Columns.{Columns}
-use Rattle.script_text.specs.Puts.{Put}
 use Rattle.script_text.specs.Lines.{lines_of}
 use Rattle.script_text.specs.Meaning.{AreAcceptedLines}
+use Rattle.script_text.specs.Script.{batches_of, puts_of}
+use Rattle.script_text.specs.Spelled.{Line}
+use Rattle.script_run.specs.Legal.{IsLegalText}
+use Rattle.table_tool.specs.Loading.{LoadAsked}
 use Rattle.table_tool.specs.declared.status.Status.{Status}
 use Rattle.table_tool.specs.declared.status.Status.TheVariants as status
 use Rattle.table_tool.specs.Outside.{Outside, SinkFails, StoreFails}
@@ -17,17 +20,31 @@ use Rattle.table_tool.specs.Request.{AskLoad, AskScan}
 use Rattle.table_tool.specs.Rows.{rows_of}
 use Rattle.table_tool.specs.Run.{RunEnds}
 
--- The lines of these bytes are those of a script under these columns. A run that was Ok printed exactly the lines of the rows
--- and static values of the sorted map of all their puts, and how many rows there are.
-pub record PrintsAllPuts (columns : Columns) (bytes : List ℕ) (before after : Outside) (result : Status) : Type 0 where
-  pub puts : List Put
-  pub accepted : AreAcceptedLines columns 1 (lines_of bytes) puts
-  pub printed : result ≡ status.Ok → WhereTold before.written after.written (λ old new. (text : List ℕ) × IsTableText columns (rows_of puts) text × (new ≡ old ++ text))
+-- The lines of these bytes are those of a script under these columns, for so many readers. A run that was Ok printed exactly the lines of
+-- the rows and static values of the sorted map of all their puts, and how many rows there are.
+pub record PrintsAllPuts (columns : Columns) (readers : ℕ) (bytes : List ℕ) (before after : Outside) (result : Status) : Type 0 where
+  pub lines : List Line
+  pub accepted : AreAcceptedLines columns readers 1 0 (lines_of bytes) lines
+  pub printed : result ≡ status.Ok → WhereTold before.written after.written (λ old new.
+      (text : List ℕ) × IsTableText columns (rows_of (puts_of (batches_of lines))) text × (new ≡ old ++ text))
   -- where neither store nor sink failed, it was Ok, want of memory aside
   pub complete : ¬ (StoreFails before after) → ¬ (SinkFails before after) → IsOrNoMemory status.Ok result
 
--- Where `load` of a source's bytes ended Ok, over a store that tells its files, a `scan` over the files that it left prints the sorted map of all puts.
-abbrev pub Headline : Type 0
-Headline = (words words' : List (String Global)) (columns : Columns) (bytes : List ℕ) (files : Files) (before between between' after : Outside) (result : Status)
-    → AskLoad words columns → AskScan words' → before.left ≡ Some bytes → between.files ≡ Some files → between'.files ≡ Some files
-    → RunEnds words before between status.Ok → RunEnds words' between' after result → PrintsAllPuts columns bytes between' after result
+-- The lines of these bytes are those of a script, and what was printed begins with a legal text of its gets.
+pub record AnswersAllGets (asked : LoadAsked) (bytes : List ℕ) (before after : Outside) : Type 0 where
+  pub lines : List Line
+  pub accepted : AreAcceptedLines asked.columns asked.readers 1 0 (lines_of bytes) lines
+  pub printed : WhereTold before.written after.written (λ old new. (text : List ℕ) × (last : List ℕ)
+      × IsLegalText asked.columns asked.bounds (batches_of lines) text × (new ≡ old ++ (text ++ last)))
+
+-- Where `load` of a source's bytes ended Ok, each get of its script was answered by its key's value after a number of its shard's puts that is
+-- printed with it, never fewer than its reader had seen there or than earlier batches made.
+abbrev pub HeadlineOfReads : Type 0
+HeadlineOfReads = (words : List (String Global)) (asked : LoadAsked) (bytes : List ℕ) (before after : Outside)
+    → AskLoad words asked → before.left ≡ Some bytes → RunEnds words before after status.Ok → AnswersAllGets asked bytes before after
+
+-- And over a store that tells its files, a `scan` over the files that it left prints the sorted map of all puts.
+abbrev pub HeadlineOfFiles : Type 0
+HeadlineOfFiles = (words words' : List (String Global)) (asked : LoadAsked) (bytes : List ℕ) (files : Files) (before between between' after : Outside) (result : Status)
+    → AskLoad words asked → AskScan words' → before.left ≡ Some bytes → between.files ≡ Some files → between'.files ≡ Some files
+    → RunEnds words before between status.Ok → RunEnds words' between' after result → PrintsAllPuts asked.columns asked.readers bytes between' after result

@@ -9,6 +9,7 @@ status_number status.Ok = 0
 status_number status.Usage = 1
 status_number status.Key = 1
 status_number (status.BadLine line cause) = 2
+status_number (status.Full line) = 3
 status_number status.SourceFault = 4
 status_number status.SinkFault = 5
 status_number status.StoreFault = 6

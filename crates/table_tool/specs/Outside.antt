@@ -47,6 +47,7 @@ module _ (before after : Outside) where
   FaultRose status.Usage = Unit {0}
   FaultRose status.Key = Unit {0}
   FaultRose (status.BadLine line cause) = Unit {0}
+  FaultRose (status.Full line) = Unit {0}
   FaultRose status.SourceFault = SourceFails
   FaultRose status.SinkFault = SinkFails
   FaultRose status.StoreFault = StoreFails

@@ -9,7 +9,7 @@ use Rattle.schema_text.specs.Bounds.{KeepsBounds}
 use Rattle.schema_text.specs.Grammar.{IsSchemaText}
 use Rattle.schema_text.specs.declared.reading.SchemaError.{SchemaError}
 use Rattle.schema_text.specs.declared.reading.SchemaError.TheVariants as schema_error
-use Rattle.command_line.specs.Said.{Said, Way, decode, encode, key, list, load, scan, way_of}
+use Rattle.command_line.specs.Said.{AreCells, Said, Way, decode, encode, key, list, load, scan, way_of}
 use Rattle.command_line.specs.declared.command.KeyArguments.{KeyArguments}
 use Rattle.key_tool.specs.declared.request.KeyWay.{KeyWay}
 use Rattle.key_tool.specs.declared.request.KeyWay.TheVariants.{Encode, Decode}
@@ -17,6 +17,10 @@ use Rattle.key_tool.specs.Shown.{kinds_in}
 use Rattle.command_line.specs.Reading.{command_of}
 use Rattle.command_line.specs.declared.command.WordsError.{WordsError}
 use Rattle.command_line.specs.declared.command.WordsError.TheVariants as error
+use Rattle.bounds_text.specs.Bounds.{IsBoundsText, IsNoBoundsText}
+use Rattle.table_files.specs.SchemaFile.{HaveSchemaFile}
+use Rattle.table_tool.specs.Loading.{LoadAsked}
+use Rattle.table_tool.specs.declared.request.LoadRequest.{LoadRequest}
 use Rattle.table_tool.specs.declared.request.Request.{Request}
 use Rattle.table_tool.specs.declared.request.Request.TheVariants as request
 
@@ -30,13 +34,14 @@ pub record IsSchemaOf (text : List ℕ) (columns : Columns) : Type 0 where
 abbrev pub Say : List (String Global) → Said → Type 0
 Say words said = command_of (map string_bytes words) ≡ Ok said
 
--- the words are `list` and the text of a schema of these columns
-abbrev pub AskList : List (String Global) → Columns → Type 0
-AskList words columns = (text : List ℕ) × Say words (list text) × IsSchemaOf text columns
+-- the words are `list`, the text of a schema of these columns, and so many cells
+abbrev pub AskList : List (String Global) → Columns → ℕ → Type 0
+AskList words columns cells = (text : List ℕ) × Say words (list text cells) × IsSchemaOf text columns
 
--- they are `load` and such a text
-abbrev pub AskLoad : List (String Global) → Columns → Type 0
-AskLoad words columns = (text : List ℕ) × Say words (load text) × IsSchemaOf text columns
+-- they are `load`, the text of a schema of these columns, that of these bounds, and so many cells and readers
+abbrev pub AskLoad : List (String Global) → LoadAsked → Type 0
+AskLoad words asked = (text : List ℕ) × (bounds : List ℕ) × Say words (load text bounds asked.cells asked.readers)
+    × IsSchemaOf text asked.columns × IsBoundsText asked.columns bounds asked.bounds
 
 -- they are `scan`
 abbrev pub AskScan : List (String Global) → Type 0
@@ -61,17 +66,17 @@ AskKey words kinds way text = (schema : List ℕ) × (columns : Columns) × (clu
 abbrev pub AreKey : List (String Global) → Type 0
 AreKey words = (kinds : Kinds) × (way : KeyWay) × (text : List ℕ) × AskKey words kinds way text
 
--- they are `load`, for some columns
+-- they are `load`, and its texts are accepted
 abbrev pub AreLoad : List (String Global) → Type 0
-AreLoad words = (columns : Columns) × AskLoad words columns
+AreLoad words = (asked : LoadAsked) × AskLoad words asked
 
--- they say `load`, with any text for a schema
+-- they say `load`, with any texts for its schema and its bounds
 abbrev pub SayLoad : List (String Global) → Type 0
-SayLoad words = (text : List ℕ) × Say words (load text)
+SayLoad words = (text : List ℕ) × (bounds : List ℕ) × (cells : ℕ) × (readers : ℕ) × Say words (load text bounds cells readers)
 
 -- they are a command whose texts are accepted
 abbrev pub AskSome : List (String Global) → Type 0
-AskSome words = ((columns : Columns) × AskList words columns) ⊎ AreLoad words ⊎ AskScan words ⊎ AreKey words
+AskSome words = ((columns : Columns) × (cells : ℕ) × AskList words columns cells) ⊎ AreLoad words ⊎ AskScan words ⊎ AreKey words
 
 -- no schema has the text that stands for one
 abbrev pub IsNoSchema : List ℕ → Type 0
@@ -79,12 +84,20 @@ IsNoSchema text = (columns : Columns) → IsSchemaOf text columns → ⊥
 
 -- the words are a command with a schema of this text
 abbrev pub SaySchema : List (String Global) → List ℕ → Type 0
-SaySchema words text = Say words (list text) ⊎ Say words (load text) ⊎ ((clustering : Bool) × (way : Way) × Say words (key text clustering way))
+SaySchema words text =
+    ((cells : ℕ) × Say words (list text cells))
+    ⊎ ((bounds : List ℕ) × (cells : ℕ) × (readers : ℕ) × Say words (load text bounds cells readers))
+    ⊎ ((clustering : Bool) × (way : Way) × Say words (key text clustering way))
 
--- the words are no command, or the text that stands for a schema isn't accepted
+-- the words are `load` with a schema of these columns and bounds of this text
+abbrev pub SayBounds : List (String Global) → Columns → List ℕ → Type 0
+SayBounds words columns bounds = (text : List ℕ) × (cells : ℕ) × (readers : ℕ) × Say words (load text bounds cells readers) × IsSchemaOf text columns
+
+-- the words are no command, or the text that stands for a schema or for bounds isn't accepted
 abbrev pub AreRefused : List (String Global) → Type 0
 AreRefused words = (command_of (map string_bytes words) ≡ Err error.Usage)
     ⊎ ((text : List ℕ) × SaySchema words text × IsNoSchema text)
+    ⊎ ((columns : Columns) × (bounds : List ℕ) × SayBounds words columns bounds × IsNoBoundsText columns bounds)
 
 -- ---- what is answered: only private contracts cite it
 
@@ -110,10 +123,35 @@ ReadsKey arguments (Ok _) = ⊥
 ReadsKey arguments (Err error.Usage) = IsNoSchema (string_bytes arguments.schema)
 ReadsKey arguments (Err error.NoMemory) = Unit {0}
 
+-- what a request for `load` asks
+abbrev pub asked_of : LoadRequest → LoadAsked
+asked_of asked = record { columns = columns_of asked.schema; bounds = asked.bounds; cells = asked.cells; readers = asked.readers }
+
+-- what a request for `load` keeps of its words: its numbers are within their limits, and its bounds are those of a text
+pub record CanLoad (asked : LoadRequest) : Type 0 where
+  pub schema : HaveSchemaFile (columns_of asked.schema)
+  pub bounds : (text : List ℕ) × IsBoundsText (columns_of asked.schema) text asked.bounds
+  pub cells : AreCells asked.cells
+  pub some : 1 ≤ asked.readers
+  pub eight : asked.readers ≤ 8
+
+-- so of each request
+abbrev pub CanRun : Request → Type 0
+CanRun (request.List asked) = AreCells asked.cells
+CanRun (request.Load asked) = CanLoad asked
+CanRun request.Scan = Unit {0}
+CanRun (request.Key asked) = Unit {0}
+
+-- the bounds of the text, or Usage where it is of none
+abbrev pub ReadsBounds : Columns → List ℕ → Result (List (List ℕ)) WordsError → Type 0
+ReadsBounds columns text (Ok bounds) = IsBoundsText columns text bounds
+ReadsBounds columns text (Err error.Usage) = IsNoBoundsText columns text
+ReadsBounds columns text (Err error.NoMemory) = Unit {0}
+
 -- what is asked for, with its schema, or Usage
 abbrev pub Asks : List (String Global) → Result Request WordsError → Type 0
-Asks words (Ok (request.List schema)) = AskList words (columns_of schema)
-Asks words (Ok (request.Load schema)) = AskLoad words (columns_of schema)
+Asks words (Ok (request.List asked)) = AskList words (columns_of asked.schema) asked.cells
+Asks words (Ok (request.Load asked)) = AskLoad words (asked_of asked)
 Asks words (Ok request.Scan) = AskScan words
 Asks words (Ok (request.Key asked)) = AskKey words (kinds_in asked.part asked.schema) asked.way (string_bytes asked.text)
 Asks words (Err error.Usage) = AreRefused words

@@ -11,7 +11,7 @@ use Rattle.table_tool.specs.Request.{AreRefused, AskKey, AskList, AskLoad, AskSc
 use Rattle.table_tool.specs.Outcome.{UsageEnds}
 use Rattle.table_tool.specs.Outside.{FaultRose, Outside}
 use Rattle.table_tool.specs.Listing.{ListEnds}
-use Rattle.table_tool.specs.Loading.{LoadEnds}
+use Rattle.table_tool.specs.Loading.{LoadAsked, LoadEnds}
 use Rattle.table_tool.specs.Scanning.{ScanEnds}
 use Rattle.table_tool.specs.Keys.{KeyEnds}
 
@@ -24,9 +24,9 @@ pub record RunEnds (words : List (String Global)) (before after : Outside) (resu
   -- refused words end in Usage
   pub refused : AreRefused words → UsageEnds before after result
   -- `list` prints the rows and static values of the sorted map of all puts
-  pub list : (columns : Columns) → AskList words columns → ListEnds columns before after result
-  -- `load` leaves files that stand for the sorted map of all puts
-  pub load : (columns : Columns) → AskLoad words columns → LoadEnds columns before after result
+  pub list : (columns : Columns) (cells : ℕ) → AskList words columns cells → ListEnds columns cells before after result
+  -- `load` answers the gets, and leaves files that stand for the sorted map of all puts
+  pub load : (asked : LoadAsked) → AskLoad words asked → LoadEnds asked before after result
   -- `scan` prints the rows and static values of the map for which the files stand
   pub scan : AskScan words → ScanEnds before after result
   -- `key` shows the string of components, or the components of a string

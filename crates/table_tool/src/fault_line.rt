@@ -84,6 +84,10 @@ pub fn fault_line(alloc: Global, status: Status) -> Result<ByteList, NoMemory>
             put_cause(&mut out, cause)?;
             out.push(b'\n')?;
         }
+        Status::Full(line) => {
+            put_number(&mut out, b"error: line ", u64::from(line))?;
+            out.extend(b": shard full\n")?;
+        }
     }
     Ok(out)
 }

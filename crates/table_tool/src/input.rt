@@ -52,20 +52,23 @@ pub fn read_all<S: Source>(alloc: Global, source: &mut S) -> Result<ByteList, In
     }
 }
 
-/// The script of the source's bytes, or the status of its refusal.
+/// The script of the source's bytes, for so many readers, or the status of its refusal.
 pub fn take_script<S: Source>(
     alloc: Global,
     schema: &Schema,
+    readers: u32,
     source: &mut S,
 ) -> Result<Script, Status>
-    ensures told { IfSome (S.left source.old) (λ bytes. TakesScript result (script_of (columns_of schema.now) bytes)) }
-    ensures spelled { IfOk result (IsSpelled (columns_of schema.now)) }
+    requires some { 1 ≤ readers }
+    requires few { readers ≤ 8 }
+    ensures told { IfSome (S.left source.old) (λ bytes. TakesScript result (script_of (columns_of schema.now) readers bytes)) }
+    ensures spelled { IfOk result (IsSpelled (columns_of schema.now) readers) }
     ensures early { IfErr result EndsEarly }
     ensures later { S.faults source.old ≤ S.faults source.new }
     ensures fault { result ≡ Err Status.SourceFault → Rose (S.faults source.old) (S.faults source.new) }
 {
     match read_all(alloc, source) {
-        Ok(bytes) => match read_script(alloc, schema, 1, bytes.as_slice()) {
+        Ok(bytes) => match read_script(alloc, schema, readers, bytes.as_slice()) {
             Ok(script) => Ok(script),
             Err(ScriptError::BadLine(line, cause)) => Err(Status::BadLine(line, cause)),
             Err(ScriptError::TooLarge) => Err(Status::TooLarge),

@@ -3,7 +3,6 @@
 
 mod fault_line;
 mod first;
-mod flush;
 mod input;
 mod key;
 mod laws;
@@ -15,7 +14,6 @@ mod request;
 mod saying;
 mod scan;
 mod status;
-mod table;
 mod tool;
 mod walk;
 mod window;

@@ -1,5 +1,5 @@
 //! The text of rows and static values.
-ghost use Rattle.std.specs.Prelude.{◌≡◌, ◌≤◌, ◌++◌, [], List, ℕ, Some, codes, length, OnOk, IfOk, IfSome};
+ghost use Rattle.std.specs.Prelude.{◌≡◌, ◌≤◌, ◌<◌, ◌++◌, [], List, ℕ, Some, codes, length, OnOk, IfOk};
 ghost use Rattle.std.specs.Option.{option_copied};
 ghost use Rattle.key_types.specs.Columns.{columns_of};
 ghost use Rattle.script_text.specs.Script.{most_lines};
@@ -10,27 +10,18 @@ ghost use Rattle.key_printing.specs.Texts.{IsTextOf};
 ghost use Rattle.data_file.specs.Listing.{FitsStaticType};
 ghost use Rattle.flush_walk.specs.Given.{IsBehindKey};
 ghost use Rattle.flush_walk.specs.TableEntries.{AreTableEntries};
-ghost use Rattle.table_tool.specs.Lines.{EndsLine, begins};
+ghost use Rattle.shard_table.specs.Together.{shard_entries};
+ghost use Rattle.table_tool.specs.Lines.{EndsLine, HoldsText};
 ghost use Rattle.table_tool.specs.Printed.{count_line, entry_line, entry_lines, rows_text};
 ghost use Rattle.table_files.specs.Standing.{static_entries};
 
 use crate::numbers::put_number;
-use crate::table::Rows;
 use flush_walk::{part, row_at};
 use key_printing::write_string;
 use key_text::write_equals;
 use key_types::{ByteList, NoMemory, Schema, ValueType};
+use shard_table::FrozenTable;
 use std::alloc::Global;
-
-/// Whether an entry of this partition begins it, behind an entry of the open one.
-fn begins(last: Option<&[u8]>, partition: &[u8]) -> bool
-    ensures { result ≡ begins (option_copied last.entry) partition.now }
-{
-    match last {
-        Some(before) => before != partition,
-        None => true,
-    }
-}
 
 /// Ends the line of a row, which so far is the text of its partition's components.
 fn end_row(
@@ -106,23 +97,26 @@ pub fn put_static_part(
     }
 }
 
-/// Turns the text of a partition's components to that of this partition, where it isn't the last one, whose text it is.
+/// Turns the text of a partition's components, and its string, to those of this partition, where it isn't the last one.
 fn turn_text(
     text: &mut ByteList,
+    last: &mut ByteList,
     alloc: Global,
     schema: &Schema,
-    last: Option<&[u8]>,
     partition: &[u8],
 ) -> Result<(), NoMemory>
     requires partition { IsStringOf (kinds_of schema.now.partition) partition.now }
-    requires last { IfSome (option_copied last) (λ key. IsTextOf (kinds_of schema.now.partition) key text.old) }
-    ensures { OnOk result (IsTextOf (kinds_of schema.now.partition) partition.now text.new) }
+    requires last { HoldsText (kinds_of schema.now.partition) last.old text.old }
+    ensures text { OnOk result (IsTextOf (kinds_of schema.now.partition) partition.now text.new) }
+    ensures last { OnOk result (last.new ≡ partition.now) }
 {
-    if begins(last, partition) {
-        text.truncate(0);
-        return write_string(alloc, &schema.partition, partition, text);
+    if last.as_slice() == partition {
+        return Ok(());
     }
-    Ok(())
+    last.truncate(0);
+    last.extend(partition)?;
+    text.truncate(0);
+    write_string(alloc, &schema.partition, partition, text)
 }
 
 /// Appends the line of an entry: of a row, or of a static value where no clustering is there. Its partition has this text.
@@ -154,19 +148,27 @@ pub fn put_count(out: &mut ByteList, rows: u64) -> Result<(), NoMemory>
     out.push(b'\n')
 }
 
-/// The lines of the entries in order, and how many rows there are.
-pub fn print_rows(alloc: Global, schema: &Schema, rows: &Rows) -> Result<ByteList, NoMemory>
-    requires entries { AreTableEntries (columns_of schema.now) rows.now.entries }
-    requires count { length rows.now.entries ≤ most_lines }
-    ensures { IfOk result (λ text. text ≡ rows_text (columns_of schema.now) rows.now.entries) }
+/// The lines of a table's entries in order, and how many rows there are.
+pub fn print_rows(
+    alloc: Global,
+    schema: &Schema,
+    table: &FrozenTable,
+) -> Result<ByteList, NoMemory>
+    requires some { 0 < length table.now }
+    requires entries { AreTableEntries (columns_of schema.now) (shard_entries table.now) }
+    requires count { length (shard_entries table.now) ≤ most_lines }
+    ensures { IfOk result (λ text. text ≡ rows_text (columns_of schema.now) (shard_entries table.now)) }
 {
-    let mut out = ByteList::new(alloc);
+    let mut cursor = table.cursor(alloc)?;
+    let mut key = ByteList::new(alloc);
+    let mut value = ByteList::new(alloc);
+    let mut last = ByteList::new(alloc);
     let mut text = ByteList::new(alloc);
-    let mut last: Option<&[u8]> = None;
+    let mut out = ByteList::new(alloc);
     let mut count = 0u64;
-    'entries: for (key, value) in rows {
+    'entries: while table.next_into(&mut cursor, &mut key, &mut value)? {
         let (partition, clustering) = part(schema, key.as_slice());
-        turn_text(&mut text, alloc, schema, last, partition)?;
+        turn_text(&mut text, &mut last, alloc, schema, partition)?;
         put_entry(
             &mut out,
             alloc,
@@ -176,7 +178,6 @@ pub fn print_rows(alloc: Global, schema: &Schema, rows: &Rows) -> Result<ByteLis
             value.as_slice(),
         )?;
         count += row_at(clustering);
-        last = Some(partition);
     }
     put_count(&mut out, count)?;
     Ok(out)

@@ -1,16 +1,39 @@
 //! What the words ask for.
-ghost use Rattle.std.specs.Prelude.{◌≡◌, IfOk};
+ghost use Rattle.std.specs.Prelude.{◌≡◌, List, IfOk};
+ghost use Rattle.std.specs.declared.string.String.{String};
+ghost use Rattle.std.specs.declared.alloc.Global.{Global};
 ghost use Rattle.std.specs.String.{string_bytes};
 ghost use Rattle.key_types.specs.Columns.{columns_of};
-ghost use Rattle.command_line.specs.Said.{way_of};
+ghost use Rattle.command_line.specs.Said.{IsLimited, said_of, way_of};
 ghost use Rattle.key_tool.specs.Shown.{kinds_in};
-ghost use Rattle.table_tool.specs.Request.{Asks, ReadsKey, ReadsSchema, TellsLoad, part_kinds, said_way, words_error};
+ghost use Rattle.table_tool.specs.Request.{Asks, CanRun, ReadsBounds, ReadsKey, Say, ReadsSchema, TellsLoad, part_kinds, said_way, words_error};
 
-use command_line::{Command, KeyArguments, WordsError, read_words};
+use bounds_text::{BoundsError, read_bounds};
+use command_line::{Command, KeyArguments, LoadArguments, WordsError, read_words};
 use key_tool::{KeyPart, KeyWay};
 use key_types::{NoMemory, Schema};
 use schema_text::{SchemaError, read_schema};
+use shard_table::KeyList;
 use std::alloc::Global;
+
+/// What `list` is asked for.
+#[derive(Drop)]
+pub struct ListRequest {
+    pub schema: Schema,
+    /// The cells of its shard.
+    pub cells: u32,
+}
+
+/// What `load` is asked for.
+#[derive(Drop)]
+pub struct LoadRequest {
+    pub schema: Schema,
+    /// The strings of the partitions at which shards end and begin.
+    pub bounds: KeyList,
+    /// The cells of each shard.
+    pub cells: u32,
+    pub readers: u32,
+}
 
 /// What `key` is asked for.
 #[derive(Drop)]
@@ -25,10 +48,10 @@ pub struct KeyRequest {
 /// A command whose texts are accepted.
 #[derive(Drop)]
 pub enum Request {
-    /// Print the rows of a script of this schema.
-    List(Schema),
-    /// Write the files of such a script's rows.
-    Load(Schema),
+    /// Print the rows of a script.
+    List(ListRequest),
+    /// Answer the gets of a script, and write the files of its rows.
+    Load(LoadRequest),
     /// Print the rows of the files.
     Scan,
     /// Print the string of components, or the components of a string.
@@ -94,19 +117,45 @@ fn key_request(alloc: Global, arguments: KeyArguments) -> Result<Request, WordsE
     }))
 }
 
+/// The bounds of a text in the words, or Usage.
+fn bounds_of(alloc: Global, schema: &Schema, text: &str) -> Result<KeyList, WordsError>
+    ensures { ReadsBounds (columns_of schema.now) text.now result }
+{
+    match read_bounds(alloc, schema, text) {
+        Ok(bounds) => Ok(bounds),
+        Err(BoundsError::Refused) => Err(WordsError::Usage),
+        Err(BoundsError::NoMemory) => Err(WordsError::NoMemory),
+    }
+}
+
+/// What the words of `load` ask for, or Usage.
+fn load_request(alloc: Global, arguments: LoadArguments) -> Result<Request, WordsError>
+    requires { IsLimited (Command.Load arguments) }
+    ensures asks { (words : List (String Global)) → Say words (said_of (Command.Load arguments)) → Asks words result }
+    ensures can { IfOk result CanRun }
+{
+    let schema = schema_of(alloc, arguments.schema.as_str())?;
+    let bounds = bounds_of(alloc, &schema, arguments.bounds.as_str())?;
+    Ok(Request::Load(LoadRequest {
+        schema,
+        bounds,
+        cells: arguments.cells,
+        readers: arguments.readers,
+    }))
+}
+
 /// What the words ask for, or Usage.
 pub fn read_request(alloc: Global, words: &[String]) -> Result<Request, WordsError>
-    ensures { Asks words.now result }
+    ensures asks { Asks words.now result }
+    ensures can { IfOk result CanRun }
 {
     match read_words(alloc, words)? {
         Command::List(arguments) => {
             let schema = schema_of(alloc, arguments.schema.as_str())?;
-            Ok(Request::List(schema))
+            let cells = arguments.cells;
+            Ok(Request::List(ListRequest { schema, cells }))
         }
-        Command::Load(arguments) => {
-            let schema = schema_of(alloc, arguments.schema.as_str())?;
-            Ok(Request::Load(schema))
-        }
+        Command::Load(arguments) => load_request(alloc, arguments),
         Command::Scan => Ok(Request::Scan),
         Command::Key(arguments) => key_request(alloc, arguments),
     }

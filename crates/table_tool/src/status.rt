@@ -15,6 +15,8 @@ pub enum Status {
     Key,
     /// The first line of the script that isn't accepted, counted from 1, and its cause.
     BadLine(u32, LineCause),
+    /// A shard had no room for the put of this line, the least of its batch for which one had none.
+    Full(u32),
     /// The source failed.
     SourceFault,
     /// The sink failed.
@@ -42,6 +44,7 @@ impl Status {
             Status::Usage => 1,
             Status::Key => 1,
             Status::BadLine(_, _) => 2,
+            Status::Full(_) => 3,
             Status::SourceFault => 4,
             Status::SinkFault => 5,
             Status::StoreFault => 6,

@@ -17,30 +17,6 @@ use outside::{Gate, Sink, Source, Store};
 use std::alloc::Global;
 use std::thread::Threads;
 
-/// Does what the words ask for.
-fn answer<S: Source, O: Sink, K: Store>(
-    alloc: Global,
-    words: &[String],
-    source: &mut S,
-    out: &mut O,
-    store: &mut K,
-) -> Status
-    ensures ends { RunEnds words.now
-        (outside_of (S.left source.old) (S.faults source.old) (O.written out.old) (O.faults out.old) (K.files store.old) (K.faults store.old) (K.reads store.old))
-        (outside_of (S.left source.new) (S.faults source.new) (O.written out.new) (O.faults out.new) (K.files store.new) (K.faults store.new) (K.reads store.new))
-        result }
-    ensures untouched { ¬ (AreLoad words.now) → ¬ (AskScan words.now) → store.new ≡ store.old }
-{
-    match read_request(alloc, words) {
-        Ok(Request::List(schema)) => list(alloc, &schema, source, out),
-        Ok(Request::Load(schema)) => load(alloc, &schema, source, out, store),
-        Ok(Request::Scan) => scan_table(alloc, out, store),
-        Ok(Request::Key(asked)) => key(alloc, &asked, out),
-        Err(WordsError::Usage) => refuse(alloc, out, Status::Usage),
-        Err(WordsError::NoMemory) => Status::NoMemory,
-    }
-}
-
 /// Does a command that starts no thread: any but `load`. It never waits, and always returns.
 ///
 /// The words are those behind the program's name. The promise is that of `run`.
@@ -59,20 +35,27 @@ pub fn run_query<S: Source, O: Sink, K: Store>(
     // `list`, `key` and refused words ask the store nothing.
     ensures untouched { ¬ (AskScan words.now) → store.new ≡ store.old }
 {
-    answer(alloc, words, source, out, store)
+    match read_request(alloc, words) {
+        Ok(Request::List(request)) => list(alloc, &request.schema, request.cells, source, out),
+        Ok(Request::Load(_)) => unreachable!(),
+        Ok(Request::Scan) => scan_table(alloc, out, store),
+        Ok(Request::Key(asked)) => key(alloc, &asked, out),
+        Err(WordsError::Usage) => refuse(alloc, out, Status::Usage),
+        Err(WordsError::NoMemory) => Status::NoMemory,
+    }
 }
 
-/// Does `load`, or refuses the words. Until there are shards it starts no thread.
+/// Does `load`, or refuses the words. It starts threads and joins them.
 ///
 /// The words are those behind the program's name. The promise is that of `run`.
 pub fn run_load<R: Threads + Sync, S: Source, O: Sink, K: Store, G: Gate>(
-    _rt: &R,
+    rt: &R,
     alloc: Global,
     words: &[String],
     source: &mut S,
     out: &mut O,
     store: &mut K,
-    _gate: &G,
+    gate: &G,
 ) -> Status
     requires { SayLoad words.now ⊎ AreRefused words.now }
     ensures ends { RunEnds words.now
@@ -82,7 +65,14 @@ pub fn run_load<R: Threads + Sync, S: Source, O: Sink, K: Store, G: Gate>(
     // Refused words ask the store nothing.
     ensures untouched { ¬ (AreLoad words.now) → ¬ (AskScan words.now) → store.new ≡ store.old }
 {
-    answer(alloc, words, source, out, store)
+    match read_request(alloc, words) {
+        Ok(Request::Load(request)) => load(rt, alloc, request, source, out, store, gate),
+        Ok(Request::List(_)) => unreachable!(),
+        Ok(Request::Scan) => unreachable!(),
+        Ok(Request::Key(_)) => unreachable!(),
+        Err(WordsError::Usage) => refuse(alloc, out, Status::Usage),
+        Err(WordsError::NoMemory) => Status::NoMemory,
+    }
 }
 
 /// Does the command that the words ask for, and answers how it ended: `run_load` for `load`, and `run_query` for all other words.

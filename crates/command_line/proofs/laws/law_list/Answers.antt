@@ -26,20 +26,20 @@ is_plain b bs h = by (b == 45) h
     by false e = refl
 
 found_apart : (b : ℕ) (bs : List ℕ) → (b == 45) ≡ false
-    → said_in (found_in (codes "list" ∷ codes "--schema" ∷ (b ∷ bs) ∷ [])) ≡ Ok (list (b ∷ bs))
+    → said_in (found_in (codes "list" ∷ codes "--schema" ∷ (b ∷ bs) ∷ [])) ≡ Ok (list (b ∷ bs) 262144)
 unfolding clap_on_literals found_in
 found_apart b bs e = simp e
 
-found_empty : said_in (found_in (codes "list" ∷ codes "--schema" ∷ [] ∷ [])) ≡ Ok (list [])
+found_empty : said_in (found_in (codes "list" ∷ codes "--schema" ∷ [] ∷ [])) ≡ Ok (list [] 262144)
 unfolding clap_on_literals found_in
 found_empty = refl
 
-found_attached : (v : Text) → said_in (found_in (codes "list" ∷ (codes "--schema=" ++ v) ∷ [])) ≡ Ok (list v)
+found_attached : (v : Text) → said_in (found_in (codes "list" ∷ (codes "--schema=" ++ v) ∷ [])) ≡ Ok (list v 262144)
 unfolding clap_on_literals found_in
 found_attached v = refl
 
 read_apart : (v : Text) → begins_plainly v ≡ true → is_refused v ≡ false
-    → command_of (codes "list" ∷ codes "--schema" ∷ v ∷ []) ≡ Ok (list v)
+    → command_of (codes "list" ∷ codes "--schema" ∷ v ∷ []) ≡ Ok (list v 262144)
 read_apart [] plain refused = rw (list_plain, schema_plain, refused) found_empty
 read_apart (b ∷ bs) plain refused = rw (list_plain, schema_plain, refused) (found_apart b bs (is_plain b bs plain))
 

@@ -4,7 +4,7 @@ use Rattle.trie_rule.specs.Seats.{WriterAt}
 use Rattle.shard_table.specs.declared.workers.Workers.{Workers}
 use Rattle.shard_table.specs.Seats.{AreEach, IsFreeWriter}
 use Rattle.shard_table.proofs.Each.{each_length}
-use Rattle.load_work.specs.declared.batch.BatchGet.{BatchGet}
+use Rattle.script_text.specs.declared.spans.GetLine.{GetLine}
 use Rattle.load_work.specs.declared.batch.Answer.{Answer}
 use Rattle.load_work.specs.Merge.{CanBeBounded, IsBounded}
 use Rattle.load_work.specs.Work.{IsAnswerOf, ReadsRise}
@@ -80,7 +80,7 @@ returns-clause-answers g c =
     let before : c.as_mut_slice-2.result.now ≡ merged = c.as_mut_slice-2.ensures.value in
     let answers = c.bound_all.new.answers in
     let long : length answers ≡ length merged = c.bound_all.ensures.len ∙ ap length before in
-    let bounded : (i : ℕ) (g : BatchGet) (a b : Answer) → slice_get gets i ≡ Some g → slice_get merged i ≡ Some a → slice_get answers i ≡ Some b → IsBounded now.writers.items g a b = λ i get a b at to last.
+    let bounded : (i : ℕ) (g : GetLine) (a b : Answer) → slice_get gets i ≡ Some g → slice_get merged i ≡ Some a → slice_get answers i ≡ Some b → IsBounded now.writers.items g a b = λ i get a b at to last.
     subst (λ (l : List WriterAt). IsBounded l get a b) c.as_mut_slice.ensures.value
     (c.bound_all.ensures.bounded i get a b at (subst (λ (l : List Answer). slice_get l i ≡ Some a) (sym before) to) last) in
     let after : Workers = record { writers = with_items now.writers c.bound_all.new.writers; readers = now.readers } in
@@ -110,7 +110,7 @@ returns-clause-rise g c =
     let before : c.as_mut_slice-2.result.now ≡ merged = c.as_mut_slice-2.ensures.value in
     let answers = c.bound_all.new.answers in
     let long : length answers ≡ length merged = c.bound_all.ensures.len ∙ ap length before in
-    let bounded : (i : ℕ) (g : BatchGet) (a b : Answer) → slice_get gets i ≡ Some g → slice_get merged i ≡ Some a → slice_get answers i ≡ Some b → IsBounded now.writers.items g a b = λ i get a b at to last.
+    let bounded : (i : ℕ) (g : GetLine) (a b : Answer) → slice_get gets i ≡ Some g → slice_get merged i ≡ Some a → slice_get answers i ≡ Some b → IsBounded now.writers.items g a b = λ i get a b at to last.
     subst (λ (l : List WriterAt). IsBounded l get a b) c.as_mut_slice.ensures.value
     (c.bound_all.ensures.bounded i get a b at (subst (λ (l : List Answer). slice_get l i ≡ Some a) (sym before) to) last) in
     let after : Workers = record { writers = with_items now.writers c.bound_all.new.writers; readers = now.readers } in

@@ -2,4 +2,4 @@ use Rattle.script_text.proofs.Accepted.{accepted_script}
 use Rattle.script_text.proofs.laws.law_accepted_puts.Goals as goal
 
 pub returns : goal.returns
-returns c = λ s text script is. accepted_script s text script is
+returns c = accepted_script

@@ -1,5 +1,8 @@
-use Rattle.table_tool.proofs.Headline.{headline}
+use Rattle.table_tool.proofs.Headline.{files_scanned, reads}
 use Rattle.table_tool.proofs.laws.law_headline.Goals as goal
 
-pub returns : goal.returns
-returns c = headline
+pub returns-clause-reads : goal.returns-clause-reads
+returns-clause-reads c = reads
+
+pub returns-clause-files : goal.returns-clause-files
+returns-clause-files c = files_scanned

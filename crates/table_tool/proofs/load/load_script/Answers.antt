@@ -1,49 +1,64 @@
+use Rattle.std.proofs.Common.{◌≡◌, ℕ, List, Result, Ok, Err, rules, subst, sym}
+use Rattle.outside.specs.Told.{WhereTold}
+use Rattle.shard_table.specs.declared.frozen.FrozenTable.{FrozenTable}
+use Rattle.table_tool.specs.declared.status.Status.{Status}
+use Rattle.table_tool.specs.declared.status.Status.TheVariants as status
+use Rattle.table_tool.specs.Loading.{Answers, FillsShards, FitsShards}
+use Rattle.std.specs.List.{AllByRecursion}
 use Rattle.key_types.specs.Columns.{columns_of}
-use Rattle.script_text.specs.Script.{puts_of}
-use Rattle.table_tool.proofs.LoadedLemmas.{added_changes, loaded, no_changes, rows_taken, stopped_changes}
-use Rattle.table_tool.proofs.RowLemmas.{script_accepted, script_rows_are, script_rows_few}
+use Rattle.script_text.specs.Puts.{Batch}
+use Rattle.script_text.specs.Script.{gets_of, puts_of}
+use Rattle.script_text.proofs.Accepted.{accepted_puts}
+use Rattle.script_run.specs.Runs.{IsRunGet, IsRunPut}
+use Rattle.table_tool.specs.Request.{asked_of}
+use Rattle.table_tool.proofs.LoadLemmas.{full_answers, full_line, full_never, memory_answers}
+use Rattle.table_tool.proofs.RowLemmas.{script_accepted}
+use Rattle.table_tool.proofs.RunPuts.{begins_none, run_gets, run_puts}
 use Rattle.table_tool.proofs.load.load_script.Goals as goal
 
-pub flush-requires-clause-entries : goal.flush-requires-clause-entries
-flush-requires-clause-entries g c = script_rows_are (columns_of c.args.schema.now) c.args.script c.in_ok-rows.rows.entries c.requires.spelled c.in_ok-rows.ensures
+pub run_script-requires-clause-puts : goal.run_script-requires-clause-puts
+run_script-requires-clause-puts g c κs within =
+    let columns = columns_of c.args.request.schema in
+    let bounds = c.args.request.bounds in
+    let script = c.args.script.now in
+    let spelled = c.requires.spelled in
+    let text = c.requires.can.bounds in
+    subst (λ (bs : List Batch). AllByRecursion (IsRunPut bounds) (puts_of bs)) (sym c.as_slice-batches.ensures)
+    (run_puts columns bounds (begins_none columns bounds text.0 text.1) (puts_of script.batches) (accepted_puts columns c.args.request.readers spelled.0 script spelled.1))
 
-pub flush-requires-clause-takes : goal.flush-requires-clause-takes
-flush-requires-clause-takes g c =
-    let columns = columns_of c.args.schema.now in
-    let rows = c.in_ok-rows.rows.entries in
-    rows_taken columns (puts_of c.args.script.batches) rows (g.K.Store.files c.args.store.now) c.in_ok-rows.ensures
-    (script_rows_are columns c.args.script rows c.requires.spelled c.in_ok-rows.ensures) (script_rows_few columns c.args.script rows c.requires.spelled c.in_ok-rows.ensures)
+pub run_script-requires-clause-gets : goal.run_script-requires-clause-gets
+run_script-requires-clause-gets g c κs within =
+    let columns = columns_of c.args.request.schema in
+    let readers = c.args.request.readers in
+    let script = c.args.script.now in
+    let accepted = script_accepted columns readers script c.requires.can.some c.requires.spelled in
+    subst (λ (bs : List Batch). AllByRecursion (IsRunGet readers) (gets_of bs)) (sym c.as_slice-batches.ensures)
+    (run_gets columns readers 0 (gets_of script.batches) accepted.ask accepted.dealt)
 
-pub returns-in_err-rows-clause-changes : goal.returns-in_err-rows-clause-changes
-returns-in_err-rows-clause-changes g c = no_changes (columns_of c.args.schema.now) (puts_of c.args.script.batches) (g.K.Store.files c.args.store.now)
+pub returns-in-Err-Full-clause-answers : goal.returns-in-Err-Full-clause-answers
+returns-in-Err-Full-clause-answers g c =
+    let script = c.args.script.now in
+    let before = g.O.Sink.written c.args.out.now in
+    let after = g.O.Sink.written c.run_script.new.out in
+    subst (λ (n : ℕ). WhereTold before after (Answers (asked_of c.args.request) (Err (status.Full n)) (Ok script))) (sym c.in-Err-Full.line-is)
+    (full_answers (asked_of c.args.request) script before after c.as_slice-batches.result.now c.as_slice-batches.ensures FrozenTable c.in-Err-Full.line c.in-Err-Full.field-0 c.in-Err-Full.field-0-is
+    c.in-Err-Full.ensures.answers)
 
-pub returns-in_err-counts-clause-changes : goal.returns-in_err-counts-clause-changes
-returns-in_err-counts-clause-changes g c =
-    let columns = columns_of c.args.schema.now in
-    let rows = c.in_ok-rows.rows.entries in
-    stopped_changes columns (puts_of c.args.script.batches) rows (g.K.Store.files c.args.store.now) (g.K.Store.files c.flush.new.store) c.in_ok-rows.ensures
-    (script_rows_are columns c.args.script rows c.requires.spelled c.in_ok-rows.ensures) (script_rows_few columns c.args.script rows c.requires.spelled c.in_ok-rows.ensures) c.in_err-counts.ensures.written.begun
+pub returns-in-Err-Full-clause-full : goal.returns-in-Err-Full-clause-full
+returns-in-Err-Full-clause-full g c =
+    let script = c.args.script.now in
+    subst (λ (n : ℕ). (other : ℕ) → ◌≡◌ {A = Result (List ℕ) Status} (Err (status.Full n)) (Err (status.Full other)) → FillsShards (asked_of c.args.request) (Ok script) other) (sym c.in-Err-Full.line-is)
+    (full_line (asked_of c.args.request) script (g.O.Sink.written c.args.out.now) (g.O.Sink.written c.run_script.new.out) c.as_slice-batches.result.now c.as_slice-batches.ensures
+    c.in-Err-Full.line (c.in-Err-Full.ensures.full c.in-Err-Full.line (search rules)))
 
-pub returns-in_err-ok_line-clause-changes : goal.returns-in_err-ok_line-clause-changes
-returns-in_err-ok_line-clause-changes g c =
-    let columns = columns_of c.args.schema.now in
-    let rows = c.in_ok-rows.rows.entries in
-    added_changes columns (puts_of c.args.script.batches) rows (g.K.Store.files c.args.store.now) (g.K.Store.files c.flush.new.store) c.in_ok-rows.ensures
-    (script_rows_are columns c.args.script rows c.requires.spelled c.in_ok-rows.ensures) (script_rows_few columns c.args.script rows c.requires.spelled c.in_ok-rows.ensures) c.in_ok-counts.ensures.written.adds
+pub returns-in-Err-Full-clause-room : goal.returns-in-Err-Full-clause-room
+returns-in-Err-Full-clause-room g c =
+    let script = c.args.script.now in
+    subst (λ (n : ℕ). FitsShards (asked_of c.args.request) (Ok script) → (other : ℕ) → ◌≡◌ {A = Result (List ℕ) Status} (Err (status.Full n)) (Err (status.Full other)) → ⊥) (sym c.in-Err-Full.line-is)
+    (full_never (asked_of c.args.request) script (g.O.Sink.written c.args.out.now) (g.O.Sink.written c.run_script.new.out) c.as_slice-batches.result.now c.as_slice-batches.ensures
+    c.in-Err-Full.line (λ room. c.in-Err-Full.ensures.room room c.in-Err-Full.line (search rules)))
 
-pub returns-clause-changes : goal.returns-clause-changes
-returns-clause-changes g c =
-    let columns = columns_of c.args.schema.now in
-    let rows = c.in_ok-rows.rows.entries in
-    added_changes columns (puts_of c.args.script.batches) rows (g.K.Store.files c.args.store.now) (g.K.Store.files c.flush.new.store) c.in_ok-rows.ensures
-    (script_rows_are columns c.args.script rows c.requires.spelled c.in_ok-rows.ensures) (script_rows_few columns c.args.script rows c.requires.spelled c.in_ok-rows.ensures) c.in_ok-counts.ensures.written.adds
-
-pub returns-clause-loaded : goal.returns-clause-loaded
-returns-clause-loaded g c =
-    let columns = columns_of c.args.schema.now in
-    let rows = c.in_ok-rows.rows.entries in
-    let written = c.in_ok-counts.ensures.written in
-    loaded columns (puts_of c.args.script.batches) rows (g.K.Store.files c.args.store.now) (g.K.Store.files c.flush.new.store) c.in_ok-rows.ensures
-    (script_rows_are columns c.args.script rows c.requires.spelled c.in_ok-rows.ensures) (script_rows_few columns c.args.script rows c.requires.spelled c.in_ok-rows.ensures)
-    c.in_ok-ok_line.field-0 c.args.script.puts c.in_ok-counts.counts.rows c.in_ok-counts.counts.partitions c.requires.columns (script_accepted columns c.args.script c.requires.spelled).count
-    c.in_ok-ok_line.ensures written.adds written.stand written.counts
+pub returns-clause-answers : goal.returns-clause-answers
+returns-clause-answers g c =
+    memory_answers (asked_of c.args.request) c.args.script.now (g.O.Sink.written c.args.out.now) (g.O.Sink.written c.run_script.new.out) c.as_slice-batches.result.now c.as_slice-batches.ensures
+    FrozenTable c.in-Ok.table c.in-Ok.ensures.answers

@@ -1,0 +1,9 @@
+pub mod Makes
+pub mod Printed
+pub mod Opened
+pub mod Closed
+pub mod Valued
+pub mod Stepped
+pub mod Room
+pub mod Told
+pub mod Filled

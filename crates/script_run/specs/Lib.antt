@@ -1,0 +1,4 @@
+pub mod Legal
+pub mod Runs
+pub mod Answers
+pub mod Steps
