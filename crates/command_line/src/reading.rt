@@ -8,9 +8,7 @@ ghost use Rattle.command_line.specs.Said.{AnswersCommand, IsLimited, said_of};
 
 use crate::command::{Command, KeyArguments, ListArguments, LoadArguments, WordsError};
 use crate::declared::tool;
-use crate::getters::{
-    cells_in, chosen, is_set, needed_text, one_way, readers_in, text_or_none,
-};
+use crate::getters::{cells_in, chosen, is_set, needed_text, one_way, readers_in, text_or_none};
 use clap::error::ErrorKind;
 use clap::{ArgMatches, Error};
 use std::alloc::Global;

@@ -1,7 +1,5 @@
 //! Vectors of words.
-use crate::{
-    Command, KeyArguments, KeyWay, ListArguments, LoadArguments, WordsError, read_words,
-};
+use crate::{Command, KeyArguments, KeyWay, ListArguments, LoadArguments, WordsError, read_words};
 use std::alloc::{AllocError, Global};
 
 fn words_of(alloc: Global, words: &[&str]) -> Result<Vec<String>, AllocError> {
@@ -100,7 +98,7 @@ fn takes_the_commands(rt: HostRuntime) -> Result<(), AllocError> {
 #[test]
 fn refuses_other_words(rt: HostRuntime) -> Result<(), AllocError> {
     let alloc = rt.alloc();
-    let table: [&[&str]; 46] = [
+    let table: [&[&str]; 45] = [
         &[],
         &[""],
         &["list"],

@@ -139,8 +139,8 @@ module _ (bounds : List (List ℕ)) where
         by_test e (λ b. value key (cond b (e ∷ here puts) (here puts)) ≡ value key (e ∷ puts))
         (λ same_shard. gets_more e (here puts) key ∙ ap (λ (o : Option (List ℕ)). value_over o (value key (e ∷ []))) (gets_here puts key is) ∙ sym (gets_more e puts key))
         (λ other.
-          gets_here puts key is ∙ sym (over_none (value key puts))
-          ∙ ap (λ (o : Option (List ℕ)). value_over (value key puts) o) (sym (one_none e key (λ eq. other (sym (ap index eq) ∙ is)))) ∙ sym (gets_more e puts key))
+        gets_here puts key is ∙ sym (over_none (value key puts))
+        ∙ ap (λ (o : Option (List ℕ)). value_over (value key puts) o) (sym (one_none e key (λ eq. other (sym (ap index eq) ∙ is)))) ∙ sym (gets_more e puts key))
 
     -- a key of another one has none
     gets_none : (puts : List Entry) (key : List ℕ) → index key ≢ i → value key (here puts) ≡ None
@@ -148,8 +148,8 @@ module _ (bounds : List (List ℕ)) where
     gets_none (e ∷ puts) key apart =
         by_test e (λ b. value key (cond b (e ∷ here puts) (here puts)) ≡ None)
         (λ is.
-          gets_more e (here puts) key ∙ ap (λ (o : Option (List ℕ)). value_over o (value key (e ∷ []))) (gets_none puts key apart)
-          ∙ one_none e key (λ eq. apart (ap index eq ∙ is)))
+        gets_more e (here puts) key ∙ ap (λ (o : Option (List ℕ)). value_over o (value key (e ∷ []))) (gets_none puts key apart)
+        ∙ one_none e key (λ eq. apart (ap index eq ∙ is)))
         (λ other. gets_none puts key apart)
 
   -- ---- bounds part the strings in their order

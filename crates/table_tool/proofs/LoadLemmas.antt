@@ -248,7 +248,7 @@ module _ (asked : LoadAsked) (left left' : Option (List ℕ)) (source source' : 
       done = if_so left _ _ (λ bytes loads ok. (loads.0, line, loads.1, loads.2)) once.loads;
       complete = every files _ (λ old. if_so left _ _
           (λ bytes loads none quiet_source quiet_sink quiet_store fits.
-            subst (λ (r : Result Script Status). IsOrNoMemory (ended r) result) (sym loads.1) (by_cases (IsOrNoMemory status.Ok) refl (λ e. absurd (quiet_sink (rose e))))) once.loads);
+          subst (λ (r : Result Script Status). IsOrNoMemory (ended r) result) (sym loads.1) (by_cases (IsOrNoMemory status.Ok) refl (λ e. absurd (quiet_sink (rose e))))) once.loads);
       kept = by_cases (λ s. KeepsFiles s files files') tt (λ e. tt);
       changes = once.changes;
     }

@@ -213,9 +213,14 @@ module _ (words : List (String Global)) where
   asks_key arguments (Ok (request.List asked)) say reads = absurd reads
   asks_key arguments (Ok (request.Load asked)) say reads = absurd reads
   asks_key arguments (Ok request.Scan) say reads = absurd reads
-  asks_key arguments (Ok (request.Key asked)) say (columns, is, kinds, way) =
-      (string_bytes arguments.schema, columns, arguments.clustering,
-       subst (λ (w : Way). Say words (key (string_bytes arguments.schema) arguments.clustering w)) way say, is, kinds)
+  asks_key arguments (Ok (request.Key asked)) say (columns, is, kinds, way) = (
+    string_bytes arguments.schema,
+    columns,
+    arguments.clustering,
+    subst (λ (w : Way). Say words (key (string_bytes arguments.schema) arguments.clustering w)) way say,
+    is,
+    kinds,
+  )
   asks_key arguments (Err error.Usage) say none =
       inr (inl (string_bytes arguments.schema, inr (inr (arguments.clustering, way_of arguments.way, say)), none))
   asks_key arguments (Err error.NoMemory) say reads = tt

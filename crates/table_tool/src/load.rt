@@ -103,7 +103,9 @@ fn load_script<R: Threads + Sync, O: Sink, K: Store, G: Gate>(
         readers,
     } = request;
     let batches = script.batches.as_slice();
-    let table = match run_script(rt, alloc, &schema, batches, bounds, cells, readers, gate, out) {
+    let table = match run_script(
+        rt, alloc, &schema, batches, bounds, cells, readers, gate, out,
+    ) {
         Ok(table) => table,
         Err(RunError::Full(line)) => return Err(Status::Full(line)),
         Err(RunError::SinkFault) => return Err(Status::SinkFault),

@@ -149,11 +149,7 @@ pub fn put_count(out: &mut ByteList, rows: u64) -> Result<(), NoMemory>
 }
 
 /// The lines of a table's entries in order, and how many rows there are.
-pub fn print_rows(
-    alloc: Global,
-    schema: &Schema,
-    table: &FrozenTable,
-) -> Result<ByteList, NoMemory>
+pub fn print_rows(alloc: Global, schema: &Schema, table: &FrozenTable) -> Result<ByteList, NoMemory>
     requires some { 0 < length table.now }
     requires entries { AreTableEntries (columns_of schema.now) (shard_entries table.now) }
     requires count { length (shard_entries table.now) ≤ most_lines }
