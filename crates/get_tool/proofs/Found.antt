@@ -9,7 +9,7 @@ use Rattle.table_reader.specs.declared.fault.TableFault.{TableFault}
 use Rattle.table_reader.specs.declared.fault.TableFault.TheVariants.{StoreFault, Damaged, Unfinished, NoMemory}
 use Rattle.table_reader.specs.Gets.{Gets, bytes_in}
 use Rattle.table_reader.specs.Opened.{IsLoaded, LoadsFooter, Opened}
-use Rattle.table_reader.specs.Reads.{EndsGet}
+use Rattle.table_reader.specs.Reads.{EndsCall}
 use Rattle.get_tool.specs.declared.asked.AskedKey.{AskedKey}
 use Rattle.get_tool.specs.declared.error.GetError.{GetError}
 use Rattle.get_tool.specs.declared.error.GetError.TheVariants as get_error
@@ -34,14 +34,14 @@ no_footer (Some m) generation columns key footer e f is told = subst (λ (x : Ge
 -- what a table with this footer finds is what the table finds that it was
 abbrev GetsOf : Option Files → Opened → AskedKey → Result (Option (List ℕ)) TableFault → Type 0
 GetsOf files table key result =
-    IfSome files (λ m. IfSome table.footer (λ footer. EndsGet (Gets (bytes_in (columns_of table.schema) m table.generation) footer key.partition key.clustering) result))
+    IfSome files (λ m. IfSome table.footer (λ footer. EndsCall (Gets (bytes_in (columns_of table.schema) m table.generation) footer key.partition key.clustering) result))
 
 as_before : (fs gs : Option Files) (old new : Opened) (key : AskedKey) (r : Result (Option (List ℕ)) TableFault) → gs ≡ fs → new ≡ record old { footer = new.footer; pages = new.pages }
     → GetsOf gs new key r → GetsOf fs (record old { footer = new.footer; pages = new.pages }) key r
 as_before fs gs old new key r same is got = subst (λ (f : Option Files). GetsOf f (record old { footer = new.footer; pages = new.pages }) key r) same (subst (λ (t : Opened). GetsOf gs t key r) is got)
 
 value_in : (m : Files) (generation : ℕ) (columns : Columns) (key : AskedKey) (loaded : Option FooterNumbers) (value : Option (List ℕ)) → IsLoaded columns (bytes_of m (partitions_id generation)) loaded
-    → IfSome loaded (λ footer. EndsGet (Gets (bytes_in columns m generation) footer key.partition key.clustering) (Ok value)) → ShowsFound m generation columns key (Ok value)
+    → IfSome loaded (λ footer. EndsCall (Gets (bytes_in columns m generation) footer key.partition key.clustering) (Ok value)) → ShowsFound m generation columns key (Ok value)
 value_in m generation columns key None value has got = absurd has
 value_in m generation columns key (Some footer) value has got = inr (footer, has, got)
 
@@ -54,7 +54,7 @@ value_found (Some m) gs old new key value same is has got = value_in m old.gener
 
 -- an error
 error_in : (m : Files) (generation : ℕ) (columns : Columns) (key : AskedKey) (loaded : Option FooterNumbers) (e : TableFault) → IsLoaded columns (bytes_of m (partitions_id generation)) loaded
-    → IfSome loaded (λ footer. EndsGet {A = Option (List ℕ)} (Gets (bytes_in columns m generation) footer key.partition key.clustering) (Err e)) → ShowsFound m generation columns key (Err (error_of e))
+    → IfSome loaded (λ footer. EndsCall {A = Option (List ℕ)} (Gets (bytes_in columns m generation) footer key.partition key.clustering) (Err e)) → ShowsFound m generation columns key (Err (error_of e))
 error_in m generation columns key None e has got = absurd has
 error_in m generation columns key (Some footer) StoreFault has got = tt
 error_in m generation columns key (Some footer) NoMemory has got = tt

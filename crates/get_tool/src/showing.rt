@@ -4,7 +4,7 @@ ghost use Rattle.outside.specs.Causes.{Rose};
 ghost use Rattle.key_types.specs.Columns.{columns_of};
 ghost use Rattle.table_reader.specs.Gets.{Gets, bytes_in};
 ghost use Rattle.table_reader.specs.Opened.{StandsIn};
-ghost use Rattle.table_reader.specs.Reads.{EndsGet};
+ghost use Rattle.table_reader.specs.Reads.{EndsCall};
 ghost use Rattle.get_tool.specs.Shown.{Shows, ShowsFound, ShowsIn, ShowsLine};
 
 use crate::asked::{AskedKey, read_key};
@@ -23,7 +23,7 @@ fn value_at<K: Store>(
 ) -> Result<Option<ValueBytes>, TableFault>
     requires stands { StandsIn (K.files store.old) table.old }
     requires loaded { IsSome table.old.footer }
-    ensures value { IfSome (K.files store.old) (λ m. IfSome table.old.footer (λ footer. EndsGet
+    ensures value { IfSome (K.files store.old) (λ m. IfSome table.old.footer (λ footer. EndsCall
         (Gets (bytes_in (columns_of table.old.schema) m table.old.generation) footer key.now.partition
         key.now.clustering) result)) }
     ensures schema { table.new.schema ≡ table.old.schema }
