@@ -26,4 +26,6 @@ pub use table::OpenTable;
 pub use walker::EntryStrings;
 
 #[cfg(test)]
+mod scan_tests;
+#[cfg(test)]
 mod tests;

@@ -1,7 +1,7 @@
 use Rattle.std.proofs.Common.{IsSome}
 use Rattle.table_reader.specs.Opened.{StandsIn}
 use Rattle.table_reader.specs.Scans.{ScanStands}
-use Rattle.table_reader.proofs.tests.gives.Given as goal
+use Rattle.table_reader.proofs.scan_tests.gives.Given as goal
 
 abbrev pub invariant-loop-want : goal.invariant-loop-want
 invariant-loop-want g l =
