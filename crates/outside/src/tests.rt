@@ -33,6 +33,8 @@ fn a_source_gives_pieces_and_fails_where_it_is_told(rt: HostRuntime) -> Result<(
     assert_eq!(rt; pulled(&mut source), ([2, 9, 1], b'c'));
     let mut reader = ReaderSource::new(b"abc".as_slice());
     assert_eq!(rt; pulled(&mut reader), ([3, 0, 0], b'c'));
+    let mut quiet = QuietSource::new(b"abcdef".to_vec(alloc)?);
+    assert_eq!(rt; pulled(&mut quiet), ([4, 2, 0], b'f'));
     Ok(())
 }
 
@@ -55,6 +57,7 @@ fn a_sink_keeps_what_it_is_told(rt: HostRuntime) -> Result<(), TestFail> {
     assert_eq!(rt; sink.written(), b"abcdeg".as_slice());
     let mut writer = WriterSink::new(Vec::new(alloc));
     assert_eq!(rt; pushed(&mut writer), [true; 4]);
+    assert_eq!(rt; pushed(&mut NullSink::new()), [true; 4]);
     Ok(())
 }
 
