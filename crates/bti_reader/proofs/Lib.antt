@@ -8,3 +8,4 @@ pub mod Ascending
 pub mod Walking
 pub mod Whole
 pub mod Ways
+pub mod Within

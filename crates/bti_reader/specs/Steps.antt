@@ -157,3 +157,20 @@ found_len (Some hit) = hit.path_len
 -- as many reads of the store at most as nodes lead to what was found, but for those that were passed before
 abbrev pub WithinPath : ℕ → ℕ → ℕ → Result (Option Hit) DataError → Type 0
 WithinPath old new passed result = IfOk result (λ hit. IfSome hit (λ h. new + passed ≤ old + (h.path_len + 1)))
+
+-- At most so many reads more as the path has bytes that a search is to answer, and none more where it is to answer
+-- none. Nothing is said where it is to come to a place at which no node begins.
+abbrev pub WithinReply : ℕ → ℕ → Result (Option Hit) DataError → Type 0
+WithinReply before after (Ok None) = after ≤ before
+WithinReply before after (Ok (Some hit)) = after ≤ before + hit.path_len
+WithinReply before after (Err e) = Unit {0}
+
+-- the same of a search in the file's bytes, as a call gives it behind that many bytes, whatever the call answers
+abbrev pub WithinFound : Option Files → FileId → ℕ → (List ℕ → Answer) → ℕ → ℕ → Type 0
+WithinFound files file passed search before after =
+    IfSome files (λ m. WithinReply before after (answer_of file.part passed (search (bytes_of m file))))
+
+-- the same of what is found from a way on
+abbrev pub WithinSpare : Option Files → FileId → (List ℕ → ℕ → Answer) → Spare → ℕ → ℕ → Type 0
+WithinSpare files file search spare before after =
+    IfSome files (λ m. WithinReply before after (spare_answer file.part (search (bytes_of m file)) spare))

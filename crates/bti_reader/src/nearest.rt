@@ -5,7 +5,7 @@ ghost use Rattle.outside.specs.Causes.{Rose};
 ghost use Rattle.page_cache.specs.Pages.{Honest};
 ghost use Rattle.bti_nodes.specs.Grammar.{IsBack};
 ghost use Rattle.bti_reader.specs.Searches.{first_path, last_path, below_from, above_from, floor_in, before_in, ceiling_in};
-ghost use Rattle.bti_reader.specs.Steps.{FindsHit, FindsSpare, found_len, kept_spare, SpareFits};
+ghost use Rattle.bti_reader.specs.Steps.{FindsHit, FindsSpare, found_len, kept_spare, SpareFits, WithinFound, WithinSpare};
 
 use crate::ask::{Hit, Question, ask};
 use crate::paths::{first_path, last_path};
@@ -60,6 +60,7 @@ fn take_last<K: Store>(
     ensures honest { Honest (K.files store.new) cache.new }
     ensures files { K.files store.new ≡ K.files store.old }
     ensures reads { IfOk result (λ hit. K.reads store.new ≤ K.reads store.old + found_len hit) }
+    ensures within { WithinSpare (K.files store.old) file last_path spare (K.reads store.old) (K.reads store.new) }
     ensures later { K.faults store.old ≤ K.faults store.new }
     ensures fault { result ≡ Err DataError.StoreFault → Rose (K.faults store.old) (K.faults store.new) }
 {
@@ -84,6 +85,7 @@ fn take_first<K: Store>(
     ensures honest { Honest (K.files store.new) cache.new }
     ensures files { K.files store.new ≡ K.files store.old }
     ensures reads { IfOk result (λ hit. K.reads store.new ≤ K.reads store.old + found_len hit) }
+    ensures within { WithinSpare (K.files store.old) file first_path spare (K.reads store.old) (K.reads store.new) }
     ensures later { K.faults store.old ≤ K.faults store.new }
     ensures fault { result ≡ Err DataError.StoreFault → Rose (K.faults store.old) (K.faults store.new) }
 {
@@ -115,6 +117,8 @@ fn greatest_below<K: Store>(
     ensures honest { Honest (K.files store.new) cache.new }
     ensures files { K.files store.new ≡ K.files store.old }
     ensures reads { IfOk result (λ hit. K.reads store.new ≤ K.reads store.old + length key.now + 1 + found_len hit) }
+    ensures within { WithinFound (K.files store.old) file 0 (λ bytes. below_from itself bytes root key.now)
+        (K.reads store.old + (length key.now + 1)) (K.reads store.new) }
     ensures later { K.faults store.old ≤ K.faults store.new }
     ensures fault { result ≡ Err DataError.StoreFault → Rose (K.faults store.old) (K.faults store.new) }
 {
@@ -156,6 +160,8 @@ pub fn floor<K: Store>(
     ensures honest { Honest (K.files store.new) cache.new }
     ensures files { K.files store.new ≡ K.files store.old }
     ensures reads { IfOk result (λ hit. K.reads store.new ≤ K.reads store.old + length key.now + 1 + found_len hit) }
+    ensures within { WithinFound (K.files store.old) file 0 (λ bytes. floor_in bytes root key.now)
+        (K.reads store.old + (length key.now + 1)) (K.reads store.new) }
     ensures later { K.faults store.old ≤ K.faults store.new }
     ensures fault { result ≡ Err DataError.StoreFault → Rose (K.faults store.old) (K.faults store.new) }
 {
@@ -176,6 +182,8 @@ pub fn before<K: Store>(
     ensures honest { Honest (K.files store.new) cache.new }
     ensures files { K.files store.new ≡ K.files store.old }
     ensures reads { IfOk result (λ hit. K.reads store.new ≤ K.reads store.old + length key.now + 1 + found_len hit) }
+    ensures within { WithinFound (K.files store.old) file 0 (λ bytes. before_in bytes root key.now)
+        (K.reads store.old + (length key.now + 1)) (K.reads store.new) }
     ensures later { K.faults store.old ≤ K.faults store.new }
     ensures fault { result ≡ Err DataError.StoreFault → Rose (K.faults store.old) (K.faults store.new) }
 {
@@ -196,6 +204,8 @@ pub fn ceiling<K: Store>(
     ensures honest { Honest (K.files store.new) cache.new }
     ensures files { K.files store.new ≡ K.files store.old }
     ensures reads { IfOk result (λ hit. K.reads store.new ≤ K.reads store.old + length key.now + 1 + found_len hit) }
+    ensures within { WithinFound (K.files store.old) file 0 (λ bytes. ceiling_in bytes root key.now)
+        (K.reads store.old + (length key.now + 1)) (K.reads store.new) }
     ensures later { K.faults store.old ≤ K.faults store.new }
     ensures fault { result ≡ Err DataError.StoreFault → Rose (K.faults store.old) (K.faults store.new) }
 {

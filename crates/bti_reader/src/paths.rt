@@ -4,7 +4,7 @@ ghost use Rattle.std.specs.Prelude.{◌≡◌, ◌<◌, ◌≤◌, ◌+◌, ◌^
 ghost use Rattle.outside.specs.Causes.{Rose};
 ghost use Rattle.page_cache.specs.Pages.{Honest};
 ghost use Rattle.bti_reader.specs.Searches.{exact_in, first_path, last_path};
-ghost use Rattle.bti_reader.specs.Steps.{FindsHit, question_at, WithinPath};
+ghost use Rattle.bti_reader.specs.Steps.{FindsHit, question_at, WithinFound, WithinPath};
 
 use crate::ask::{Hit, Question, ask};
 use data_file::DataError;
@@ -74,6 +74,8 @@ pub fn first_path<K: Store>(
     ensures honest { Honest (K.files store.new) cache.new }
     ensures files { K.files store.new ≡ K.files store.old }
     ensures reads { WithinPath (K.reads store.old) (K.reads store.new) taken result }
+    ensures within { WithinFound (K.files store.old) file taken (λ bytes. first_path bytes start)
+        (K.reads store.old + 1) (K.reads store.new + taken) }
     ensures later { K.faults store.old ≤ K.faults store.new }
     ensures fault { result ≡ Err DataError.StoreFault → Rose (K.faults store.old) (K.faults store.new) }
 {
@@ -109,6 +111,8 @@ pub fn last_path<K: Store>(
     ensures honest { Honest (K.files store.new) cache.new }
     ensures files { K.files store.new ≡ K.files store.old }
     ensures reads { WithinPath (K.reads store.old) (K.reads store.new) taken result }
+    ensures within { WithinFound (K.files store.old) file taken (λ bytes. last_path bytes start)
+        (K.reads store.old + 1) (K.reads store.new + taken) }
     ensures later { K.faults store.old ≤ K.faults store.new }
     ensures fault { result ≡ Err DataError.StoreFault → Rose (K.faults store.old) (K.faults store.new) }
 {

@@ -9,7 +9,7 @@ use Rattle.table_files.specs.Walk as walks
 
 module _ (columns : Columns) where
   -- the rows of a partition, its end, and what is behind it
-  rows_walk : (rows : List Row) (key tail : List ℕ) (entries : List Entry) → AreRows columns rows → ((at : ℕ) → Walks columns None at tail entries None)
+  pub rows_walk : (rows : List Row) (key tail : List ℕ) (entries : List Entry) → AreRows columns rows → ((at : ℕ) → Walks columns None at tail entries None)
       → (at : ℕ) → Walks columns (Some key) at ((rows_bytes rows ++ end_bytes) ++ tail) (row_entries key rows ++ entries) None
   rows_walk [] key tail entries are next at = walks.closes at key (0 ∷ tail) tail entries None refl (next (at + 1))
   rows_walk (r ∷ rows) key tail entries (is, are) next at =
@@ -21,7 +21,7 @@ module _ (columns : Columns) where
   parts_in : (h f r tail : List ℕ) → (h ++ (f ++ r)) ++ tail ≡ (h ++ f) ++ (r ++ tail)
   parts_in h f r tail = simp append_assoc
 
-  partitions_walk : (partitions : List Partition) → ArePartitions columns partitions → (at : ℕ) → Walks columns None at (data_bytes columns.static_value partitions) (entries_in partitions) None
+  pub partitions_walk : (partitions : List Partition) → ArePartitions columns partitions → (at : ℕ) → Walks columns None at (data_bytes columns.static_value partitions) (entries_in partitions) None
   partitions_walk [] are at = walks.ends at
   partitions_walk (p ∷ partitions) (is, static_part, rows, are) at =
       let tail : List ℕ = data_bytes columns.static_value partitions in

@@ -1,5 +1,5 @@
 //! The text of Schema.txt, written and read.
-ghost use Rattle.std.specs.Prelude.{◌≡◌, ◌≤◌, ◌++◌, List, ℕ, length, codes, Err, IfOk, IfSome, MatchOption};
+ghost use Rattle.std.specs.Prelude.{◌≡◌, ◌≤◌, ◌+◌, ◌++◌, List, ℕ, length, codes, Err, IfOk, IfSome, MatchOption};
 ghost use Rattle.outside.specs.Causes.{Rose};
 ghost use Rattle.outside.specs.Files.{bytes_of};
 ghost use Rattle.key_types.specs.Columns.{columns_of};
@@ -70,7 +70,7 @@ fn read_schema_text(alloc: Global, bytes: &[u8]) -> Result<Option<Schema>, NoMem
     }
 }
 
-/// The schema of a generation's Schema.txt; `None` where it isn't there or isn't whole. One read of the store.
+/// The schema of a generation's Schema.txt; `None` where it isn't there or isn't whole. One read of the store at most.
 pub fn read_schema<K: Store>(
     alloc: Global,
     store: &mut K,
@@ -78,6 +78,7 @@ pub fn read_schema<K: Store>(
 ) -> Result<Option<Schema>, FileError>
     ensures told { IfSome (K.files store.old) (λ m. IfOk result (ReadsSchemaFile (bytes_of m (schema_id generation)))) }
     ensures files { K.files store.new ≡ K.files store.old }
+    ensures reads { K.reads store.new ≤ K.reads store.old + 1 }
     ensures later { K.faults store.old ≤ K.faults store.new }
     ensures fault { result ≡ Err FileError.StoreFault → Rose (K.faults store.old) (K.faults store.new) }
 {

@@ -28,7 +28,7 @@ all_below key (e ∷ entries) below =
     let parts = both_hold (is_lt (string_cmp key e.0)) (below_all string_cmp key entries) below in
     (is_less (string_cmp key e.0) parts.0, all_below key entries parts.1)
 
-ascends : (entries : List Entry) → T (is_sorted string_cmp entries) → EntriesAscend entries
+pub ascends : (entries : List Entry) → T (is_sorted string_cmp entries) → EntriesAscend entries
 ascends [] sorted = tt
 ascends (e ∷ entries) sorted =
     let parts = both_hold (below_all string_cmp e.0 entries) (is_sorted string_cmp entries) sorted in

@@ -69,7 +69,7 @@ footer_reads end_ count root few below =
     )
 
 -- the footer is the one that was written
-footer_is : (columns : Columns) (file trie first last first' last' : List ℕ) (end_ count root : ℕ) (numbers : FooterNumbers)
+pub footer_is : (columns : Columns) (file trie first last first' last' : List ℕ) (end_ count root : ℕ) (numbers : FooterNumbers)
     → file ≡ trie ++ behind_trie first last end_ count root → IsFooter columns file first' last' numbers → count < 2 ^ 64 → root < 2 ^ 64
     → (numbers.partitions ≡ count) × (numbers.root ≡ root)
 footer_is columns file trie first last first' last' end_ count root numbers bytes f few below =
@@ -102,7 +102,7 @@ FindsAmong static rows key at ps None = LacksPartition key ps
 FindsAmong static rows key at ps (Some path) = Chosen static rows key at ps path
 
 module _ (static : Option ValueType) (rows key : List ℕ) where
-  alone_behind : (a : List ℕ) (xs ys : List (List ℕ)) → IsPrefixOfNone a (xs ++ ys) → IsPrefixOfNone a ys
+  pub alone_behind : (a : List ℕ) (xs ys : List (List ℕ)) → IsPrefixOfNone a (xs ++ ys) → IsPrefixOfNone a ys
   alone_behind a [] ys h = h
   alone_behind a (x ∷ xs) ys h = alone_behind a xs ys h.1
 
@@ -133,7 +133,7 @@ module _ (static : Option ValueType) (rows key : List ℕ) where
         behind = c.behind;
       }
 
-  front_begins : (n : ℕ) (s : List ℕ) → IsPrefix (take n s) s
+  pub front_begins : (n : ℕ) (s : List ℕ) → IsPrefix (take n s) s
   front_begins n s = (drop n s, sym (take-append-drop n s))
 
   among_by : (t : Bool) (before : List (List ℕ)) (at : ℕ) (p : Partition) (ps : List Partition) (n : Numbered) (ns : List Numbered) (path : Path) (others : Option Path)

@@ -75,7 +75,7 @@ module _ (columns : Columns) where
 
 -- ---- entries that ascend
 
-ascend_tail : (front more : List Entry) → EntriesAscend (front ++ more) → EntriesAscend more
+pub ascend_tail : (front more : List Entry) → EntriesAscend (front ++ more) → EntriesAscend more
 ascend_tail [] more ascend = ascend
 ascend_tail (e ∷ front) more ascend = ascend_tail front more ascend.1
 

@@ -8,11 +8,17 @@ pub mod InBlock
 pub mod Indexed
 pub mod Whole
 pub mod Footers
+pub mod Bounds
+pub mod SeekBounds
 pub mod Seeks
 pub mod Windows
 pub mod ScanSteps
 pub mod Giving
 pub mod Scanning
 pub mod Orders
-mod Leaving
+mod Named
+pub mod Leaving
 mod Beginning
+mod Starts
+pub mod Ranged
+mod Sounds

@@ -63,7 +63,7 @@ front_off [] a b = refl
 front_off (k ∷ key) a b = rest_decides (nat_cmp k k) (string_cmp (key ++ a) (key ++ b)) (itself k k refl) ∙ front_off key a b
 
 -- two beginnings of one string
-common : (a b y x : List ℕ) → a ++ y ≡ b ++ x → IsPrefix a b ⊎ IsPrefix b a
+pub common : (a b y x : List ℕ) → a ++ y ≡ b ++ x → IsPrefix a b ⊎ IsPrefix b a
 common [] b y x e = inl (b, refl)
 common (c ∷ a) [] y x e = inr (c ∷ a, refl)
 common (c ∷ a) (d ∷ b) y x e = by (common a b y x (tail_is c d (a ++ y) (b ++ x) e))

@@ -20,7 +20,7 @@ less_first a b s t Less is less on = refl
 less_first a b s t Equal is less on = on (map.nat_cmp-IsAntisymmetric a b is) less
 less_first a b s t Greater is less on = cc
 
-less_on : (p q x y : List ℕ) → string_cmp p q ≡ Less → (IsPrefix p q → ⊥) → string_cmp (p ++ x) (q ++ y) ≡ Less
+pub less_on : (p q x y : List ℕ) → string_cmp p q ≡ Less → (IsPrefix p q → ⊥) → string_cmp (p ++ x) (q ++ y) ≡ Less
 less_on [] q x y less apart = absurd (apart (q, refl))
 less_on (a ∷ p) [] x y less apart = cc
 less_on (a ∷ p) (b ∷ q) x y less apart =

@@ -1,6 +1,6 @@
 -- Steps of a scan over a window.
 use Rattle.std.proofs.Common.{◌≡◌, ◌≢◌, ◌⊎◌, ℕ, ◌+◌, ◌/◌, ◌%◌, ◌<◌, ◌≤◌, Bool, true, false, List, [], ◌∷◌, ◌++◌, length, drop, Option, None, Some, Result, Ok, Err, inl, inr, refl, sym, ap, ◌∙◌, subst, arith, append_assoc, length-append, ⊎_elim}
-use Rattle.std.proofs.lemmas.List.{drop-drop, drop-append-le, append-nil}
+use Rattle.std.proofs.lemmas.List.{drop-drop, drop-append-le, append-nil, length-drop}
 use Rattle.std.proofs.Math.Seq.{drop-append_seam}
 use Rattle.std.specs.Prelude.{if◌then◌else◌, IfSome, IsSome, is_some}
 use Rattle.std.specs.List.{AllByRecursion}
@@ -28,7 +28,7 @@ use Rattle.table_reader.specs.declared.walker.Met.TheVariants.{Passed, Given, Do
 use Rattle.table_reader.specs.declared.walker.Walker.{Walker}
 use Rattle.table_reader.specs.Parts.{GivesStatic, IsStaticAbove, IsStaticPartBehind, NoStaticPartBehind}
 use Rattle.table_reader.specs.Ranges.{BeginsStatic, IsAbove, IsBelow, IsEntryBelow, IsEntryOf, IsOpen, IsPast, StandsStill, StepIs, entries_of, entry_of, inside_of, within_bytes}
-use Rattle.table_reader.specs.Window.{Unread, Continues, HasEnough, enough}
+use Rattle.table_reader.specs.Window.{Unread, Continues, HasEnough, enough, read_to}
 
 -- ---- the partition
 
@@ -79,7 +79,7 @@ module _ (columns : Columns) where
   -- from one window to another a walk passes these entries
   abbrev pub Moving : Unread → Unread → Option (List ℕ) → Option (List ℕ) → List Entry → Type 0
   Moving w v inside inside' entries = (w.at < v.at) × (v.at ≤ v.limit) × (v.limit ≡ w.limit) × ((file : List ℕ) → Continues file w
-      → Continues file v × Passes columns file inside w.at entries inside' v.at)
+      → Continues file v × Passes columns file inside w.at entries inside' v.at) × (read_to v ≡ read_to w) × (v.whole ≡ w.whole)
 
   moving : (w v : Unread) (n : ℕ) (front rest : List ℕ) (inside inside' : Option (List ℕ)) (entries : List Entry) → w.at + length w.bytes ≤ w.limit → v ≡ passed_by n w → n ≡ length front → 0 < length front
       → w.bytes ≡ front ++ rest → ((file more : List ℕ) → drop w.at file ≡ front ++ more → Passes columns file inside w.at entries inside' (w.at + length front))
@@ -95,6 +95,8 @@ module _ (columns : Columns) where
           subst (λ (k : ℕ). Passes columns file inside w.at entries inside' (w.at + k)) (sym count)
               (passes file (rest ++ c.rest) (c.is ∙ ap (λ b. b ++ c.rest) begins ∙ append_assoc front rest c.rest)),
         ),
+        omega (arith, fits, length-drop n w.bytes),
+        refl,
       )
 
   -- behind the head of the bytes its static part stands

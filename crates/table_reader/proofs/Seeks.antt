@@ -35,6 +35,10 @@ use Rattle.table_reader.specs.Reads.{Ends, EndsCall, clustering_length, path_len
 use Rattle.table_reader.specs.Seeking.{BeginsAt, BeginsBlock, BeginsBy, BeginsFrom, BeginsNext, BeginsScan, BeginsWithin, HasHead, Seeks, at_head}
 use Rattle.table_reader.specs.SeekReads.{WithinFrom, WithinScan, WithinSeek, block_len}
 
+-- strings of which none is below the other are the same
+pub same_strings : (a b : List ℕ) → string_cmp a b ≡ Equal → a ≡ b
+same_strings a b compared = map.slice_cmp-IsAntisymmetric map.nat_cmp-IsAntisymmetric a b compared
+
 -- ---- numbers
 
 pub hit_number : Option Hit → Option ℤ
@@ -48,6 +52,10 @@ partition_found (Ok None) hit e = let is : None ≡ hit = cc in ap (λ (h : Opti
 partition_found (Ok (Some path)) hit e =
     let is : Some (record { path_len = 0 + length path.path; node = path.node; number = payload_number Partitions path.payload }) ≡ hit = cc in
     ap (λ (h : Option Hit). Ok (hit_number h)) (sym is)
+
+pub number_along : (answer : Answer) (hit : Hit) → SearchAnswers (Ok (Some hit)) (answer_of Partitions 0 answer) → Ok (Some hit.number) ≡ number_of answer
+unfolding hit_number
+number_along answer hit e = partition_found answer (Some hit) e
 
 pub partition_lost : (answer : Answer) (e : DataError) → SearchAnswers {A = Option Hit} (Err e) (answer_of Partitions 0 answer) → Ends (λ number. number ≡ number_of answer) (Err e)
 partition_lost answer StoreFault told = tt
@@ -207,7 +215,7 @@ module _ (columns : Columns) (generation root : ℕ) (bound : BoundString) (numb
   from_equal files again third place head result stay stays leads begins compared told =
       from_head files again third place head Equal result _ stay stays leads begins compared told
       (λ m at said. subst (λ (s : List ℕ). Ends (BeginsWithin (bytes_in columns m generation) place s bound.clustering) result)
-      (map.slice_cmp-IsAntisymmetric map.nat_cmp-IsAntisymmetric head.partition bound.partition compared) (said at))
+      (same_strings head.partition bound.partition compared) (said at))
 
   pub from_greater : (files again : Option Files) (place : PartitionAt) (head : Head') (start : Option Start) → again ≡ files
       → IfSome files (λ m. Ends (LeadsTo (bytes_in columns m generation) (partition_place number)) (Ok place))
@@ -261,7 +269,7 @@ module _ (columns : Columns) (generation root : ℕ) (bound : BoundString) (numb
 -- ---- the search
 
 -- what a search along a string finds in Partitions.db, where the string is the bound's
-finds_along : (columns : Columns) (generation root : ℕ) (string wanted : List ℕ) (search : List ℕ → ℕ → List ℕ → Answer) (files again : Option Files) (file : FileId) (result : Result (Option Hit) DataError)
+pub finds_along : (columns : Columns) (generation root : ℕ) (string wanted : List ℕ) (search : List ℕ → ℕ → List ℕ → Answer) (files again : Option Files) (file : FileId) (result : Result (Option Hit) DataError)
     → again ≡ files → string ≡ wanted → file ≡ partitions_id generation → FindsHit again file 0 (λ bytes. search bytes root string) result
     → IfSome files (λ m. Finds columns generation root wanted search m result)
 finds_along columns generation root string wanted search files again file result stay same name found =

@@ -50,11 +50,11 @@ grouped : (h s r t : List ℕ) → (h ++ (s ++ (r ++ 0 ∷ []))) ++ t ≡ h ++ (
 grouped h s r t =
     append_assoc h (s ++ (r ++ 0 ∷ [])) t ∙ ap (λ x. h ++ x) (append_assoc s (r ++ 0 ∷ []) t ∙ ap (λ x. s ++ x) (append_assoc r (0 ∷ []) t))
 
-data_both : (static : Option ValueType) (front rest : List Partition) → data_bytes static (front ++ rest) ≡ data_bytes static front ++ data_bytes static rest
+pub data_both : (static : Option ValueType) (front rest : List Partition) → data_bytes static (front ++ rest) ≡ data_bytes static front ++ data_bytes static rest
 data_both static [] rest = refl
 data_both static (p ∷ front) rest = ap (λ l. partition_bytes static p ++ l) (data_both static front rest) ∙ sym (append_assoc (partition_bytes static p) (data_bytes static front) (data_bytes static rest))
 
-are_parted : (columns : Columns) (front rest : List Partition) → ArePartitions columns (front ++ rest) → ArePartitions columns front × ArePartitions columns rest
+pub are_parted : (columns : Columns) (front rest : List Partition) → ArePartitions columns (front ++ rest) → ArePartitions columns front × ArePartitions columns rest
 are_parted columns [] rest are = (tt, are)
 are_parted columns (p ∷ front) rest are = let more = are_parted columns front rest are.3 in ((are.0, are.1, are.2, more.0), more.1)
 
@@ -62,7 +62,7 @@ ascend_at : (front : List Partition) (p : Partition) (rest : List Partition) →
 ascend_at [] p rest ascend = ascend.1
 ascend_at (q ∷ front) p rest ascend = ascend_at front p rest ascend.2
 
-stands_at : (columns : Columns) (file : List ℕ) (front : List Partition) (p : Partition) (rest : List Partition) → file ≡ data_bytes columns.static_value (front ++ p ∷ rest)
+pub stands_at : (columns : Columns) (file : List ℕ) (front : List Partition) (p : Partition) (rest : List Partition) → file ≡ data_bytes columns.static_value (front ++ p ∷ rest)
     → ArePartitions columns (front ++ p ∷ rest) → RowsAscend (front ++ p ∷ rest) → StandsAt columns file p (length (data_bytes columns.static_value front))
 stands_at columns file front p rest e are ascend =
     let static = columns.static_value in
@@ -78,10 +78,16 @@ stands_at columns file front p rest e are ascend =
       ascend = ascend_at front p rest ascend;
     }
 
+-- behind it stand the partitions that follow
+pub stands_tail : (columns : Columns) (file : List ℕ) (front : List Partition) (p : Partition) (rest : List Partition) (e : file ≡ data_bytes columns.static_value (front ++ p ∷ rest))
+    (are : ArePartitions columns (front ++ p ∷ rest)) (ascend : RowsAscend (front ++ p ∷ rest)) → (stands_at columns file front p rest e are ascend).tail ≡ data_bytes columns.static_value rest
+unfolding stands_at
+stands_tail columns file front p rest e are ascend = refl
+
 -- ---- the block of a row
 
 -- where the block of a row begins among the rows of a partition
-abbrev IsFrom : List ℕ → ℕ → List Row → Option Path → Type 0
+abbrev pub IsFrom : List ℕ → ℕ → List Row → Option Path → Type 0
 IsFrom key at rows None = AreEnough key 0 at rows
 IsFrom key at rows (Some path) =
     (front : List Row) × (rest : List Row) × (rows ≡ front ++ rest) × AreBelow key front × (unsigned_number path.payload ≡ at + length (rows_bytes front))
@@ -116,7 +122,7 @@ from_means key file root at rows (Err wrong) is ascend means = absurd means
 from_means key file root at rows (Ok found) is ascend means =
     (find_last (path_below true key) found, ap offset_of (searches_find file key root found is).floor, from_paths key at rows found ascend means)
 
-from_root : (key file : List ℕ) (root : Option ℕ) (at : ℕ) (rows : List Row) → StringsAscend (clusterings rows) → HasRoot file (blocks_among at rows) root
+pub from_root : (key file : List ℕ) (root : Option ℕ) (at : ℕ) (rows : List Row) → StringsAscend (clusterings rows) → HasRoot file (blocks_among at rows) root
     → (o : Option Path) × (offset_in file root key ≡ offset_of (Ok o)) × IsFrom key at rows o
 from_root key file None at rows ascend none = (None, refl, no_blocks key at rows none)
 from_root key file (Some root) at rows ascend means = from_means key file root at rows (paths file root) refl ascend means
@@ -137,18 +143,18 @@ module _ (t : TableBytes) (p : Partition) (base : ℕ) (s : StandsAt t.columns t
   dropped : (front more : List ℕ) (at place : ℕ) → place ≡ at + length front → drop at t.entries ≡ front ++ more → drop place t.entries ≡ more
   dropped front more at place n e = ap (λ k. drop k t.entries) n ∙ sym (drop-drop (length front) at t.entries) ∙ ap (drop (length front)) e ∙ drop-append_seam front more
 
-  behind_head : (behind : ℕ) → behind ≡ base + length (head_bytes p.key) → drop behind t.entries ≡ part ++ rest
+  pub behind_head : (behind : ℕ) → behind ≡ base + length (head_bytes p.key) → drop behind t.entries ≡ part ++ rest
   behind_head behind n = dropped (counted p.key) (part ++ rest) base behind n s.bytes
 
   -- ---- the static value
 
-  part_some : (type : ValueType) → static ≡ Some type → part ≡ static_bytes p.static_part
+  pub part_some : (type : ValueType) → static ≡ Some type → part ≡ static_bytes p.static_part
   part_some type e = ap (λ v. static_part_bytes v p.static_part) e
 
-  begins_part : (type : ValueType) (behind : ℕ) → static ≡ Some type → behind ≡ base + length (head_bytes p.key) → BeginsStaticPart t.columns (drop behind t.entries) p.static_part
+  pub begins_part : (type : ValueType) (behind : ℕ) → static ≡ Some type → behind ≡ base + length (head_bytes p.key) → BeginsStaticPart t.columns (drop behind t.entries) p.static_part
   begins_part type behind e n = (s.static_part, (rest, behind_head behind n ∙ ap (λ l. l ++ rest) (part_some type e)))
 
-  same_part : (type : ValueType) (behind : ℕ) (value : Option (List ℕ)) → static ≡ Some type → behind ≡ base + length (head_bytes p.key) → BeginsStaticPart t.columns (drop behind t.entries) value
+  pub same_part : (type : ValueType) (behind : ℕ) (value : Option (List ℕ)) → static ≡ Some type → behind ≡ base + length (head_bytes p.key) → BeginsStaticPart t.columns (drop behind t.entries) value
       → value ≡ p.static_part
   same_part type behind value e n (fits, (more, f)) =
       (static_part_front (Some type) value p.static_part more rest (subst (λ v. FitsStaticType v value) e fits) (subst (λ v. FitsStaticType v p.static_part) e s.static_part)
@@ -168,14 +174,14 @@ module _ (t : TableBytes) (p : Partition) (base : ℕ) (s : StandsAt t.columns t
 
   -- ---- a row
 
-  abbrev first_at : ℕ
+  abbrev pub first_at : ℕ
   first_at = rows_at static p
 
-  first_long : length (head_bytes p.key) + length part ≡ first_at
+  pub first_long : length (head_bytes p.key) + length part ≡ first_at
   first_long = sym (length-append (counted p.key) part)
 
   -- the bytes behind some rows
-  rows_behind : (front more : List Row) (at : ℕ) → p.rows ≡ front ++ more → at ≡ base + (first_at + length (rows_bytes front)) → drop at t.entries ≡ rows_bytes more ++ 0 ∷ s.tail
+  pub rows_behind : (front more : List Row) (at : ℕ) → p.rows ≡ front ++ more → at ≡ base + (first_at + length (rows_bytes front)) → drop at t.entries ≡ rows_bytes more ++ 0 ∷ s.tail
   rows_behind front more at parts n =
       let all : rows_bytes p.rows ≡ rows_bytes front ++ rows_bytes more = ap rows_bytes parts ∙ rows_both front more in
       let bytes : drop base t.entries ≡ (counted p.key ++ (part ++ rows_bytes front)) ++ (rows_bytes more ++ 0 ∷ s.tail) =

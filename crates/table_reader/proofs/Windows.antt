@@ -6,7 +6,7 @@ use Rattle.std.proofs.Math.ListN.{drop_of_length-le}
 use Rattle.outside.specs.Files.{Files, bytes_of}
 use Rattle.outside.specs.declared.store.FileId.{FileId}
 use Rattle.table_files.proofs.Passing.{behind}
-use Rattle.table_reader.specs.Window.{Unread, Continues}
+use Rattle.table_reader.specs.Window.{Unread, Continues, PaysReads, last_page, read_to}
 
 -- what a read answers of a file
 abbrev pub ReadIs : List ℕ → ℕ → ℕ → List ℕ → Type 0
@@ -37,3 +37,9 @@ pub told_page : (files : Option Files) (file : FileId) (page bytes : List ℕ) (
     → IfSome files (λ m. Continues (bytes_of m file) w → Continues (bytes_of m file) (record { bytes = bytes; at = w.at; limit = w.limit; whole = whole }))
 told_page None file page bytes end n k whole w place cut is short read = tt
 told_page (Some m) file page bytes end n k whole w place cut is short read = λ c. one_page (bytes_of m file) page bytes end n k whole w c place cut read is short
+
+-- ---- reads
+
+-- a window that is read ahead, and then passes what it has
+pub pays_on : (first w v u : Unread) (r0 r1 r2 : ℕ) → PaysReads first w r0 r1 → PaysReads w v r1 r2 → read_to u ≡ read_to v → u.whole ≡ v.whole → PaysReads first u r0 r2
+pays_on first w v u r0 r1 r2 paid more same whole = omega (arith, paid, more, same, ap last_page whole)

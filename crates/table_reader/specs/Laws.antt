@@ -10,6 +10,7 @@ use Rattle.table_files.specs.Names.{partitions_id}
 use Rattle.table_files.specs.Standing.{StandFor}
 use Rattle.table_reader.specs.Gets.{Found, Gets, bytes_in}
 use Rattle.table_reader.specs.Opened.{HasFooter}
+use Rattle.table_reader.specs.Reads.{IsAlwaysBounded, IsBounded}
 use Rattle.table_reader.specs.declared.seek.BoundString.{BoundString}
 use Rattle.table_reader.specs.declared.walker.EntryStrings.{EntryStrings}
 use Rattle.table_reader.specs.Ranges.{IsEntryOf, entry_of, order_to, within_bytes}
@@ -44,3 +45,13 @@ abbrev pub OrderIsOfStrings : Type 0
 OrderIsOfStrings =
     (columns : Columns) (bound : BoundString) (entry : EntryStrings) → IsStringOf columns.partition bound.partition → IsEntryOf columns entry
     → order_to bound entry.partition (within_bytes entry.clustering) ≡ string_cmp (entry_of entry).0 (bound_bytes bound)
+
+-- over files that stand for a map no search of a get comes to damage: whatever it answers, its reads are within its
+-- bound
+abbrev pub GetsAreBounded : Type 0
+GetsAreBounded =
+    (files : Files) (generation : ℕ) (columns : Columns) (table : Table) (footer : FooterNumbers) (key : List ℕ)
+    (wanted : Option (List ℕ)) (old new : ℕ)
+    → StandFor files generation columns table → HasFooter columns (bytes_of files (partitions_id generation)) footer
+    → IsAlwaysBounded (bytes_in columns files generation) footer key wanted old new
+    → IsBounded (bytes_in columns files generation) footer key wanted old new

@@ -1,5 +1,5 @@
 -- What a scan over a range has left to give. This project's own.
-use Rattle.std.specs.Prelude.{◌≡◌, ℕ, ◌&&◌, Bool, true, false, List, [], ◌∷◌, length, drop, Option, None, Some, Result, Ok, Err, IfSome}
+use Rattle.std.specs.Prelude.{◌≡◌, ℕ, ◌<◌, ◌≤◌, ◌&&◌, Bool, true, false, List, [], ◌∷◌, length, drop, Option, None, Some, Result, Ok, Err, IfSome}
 use Rattle.std.specs.List.{AllByRecursion, filter}
 use Rattle.std.specs.declared.cmp.Ordering.{Ordering}
 use Rattle.std.specs.declared.cmp.Ordering.TheVariants.{Less, Equal, Greater}
@@ -8,16 +8,24 @@ use Rattle.std.specs.FinMap as map
 use Rattle.outside.specs.Files.{Files, bytes_of}
 use Rattle.key_types.specs.Table.{Entry, Table, string_cmp}
 use Rattle.key_decode.specs.Strings.{IsStringOf}
+use Rattle.bti_nodes.specs.declared.damage.Damage.{Damage}
 use Rattle.data_file.specs.declared.reading.DataError.{DataError}
 use Rattle.data_file.specs.declared.reading.DataError.TheVariants.{StoreFault, Damaged, NoMemory}
-use Rattle.table_files.specs.Names.{data_id}
+use Rattle.index_files.specs.declared.footer.FooterNumbers.{FooterNumbers}
+use Rattle.table_files.specs.Names.{data_id, partitions_id}
 use Rattle.table_files.specs.Standing.{StandFor}
 use Rattle.table_files.specs.Walk.{Walks}
+use Rattle.table_reader.specs.declared.fault.TableFault.{TableFault}
+use Rattle.table_reader.specs.declared.fault.TableFault.TheVariants as table_fault
 use Rattle.table_reader.specs.declared.seek.BoundString.{BoundString}
+use Rattle.table_reader.specs.declared.seek.Start.{Start}
 use Rattle.table_reader.specs.declared.walker.EntryStrings.{EntryStrings}
+use Rattle.table_reader.specs.Gets.{bytes_in}
 use Rattle.table_reader.specs.Laws.{bound_bytes}
+use Rattle.table_reader.specs.Opened.{HasFooter}
 use Rattle.table_reader.specs.Ranges.{Gives, IsOpen, Scanning, entry_of}
-use Rattle.table_reader.specs.Scans.{begun}
+use Rattle.table_reader.specs.Scans.{Scans, begun}
+use Rattle.table_reader.specs.Seeking.{BeginsScan}
 
 -- ---- the entries of a range
 
@@ -94,3 +102,42 @@ WholeScanHasAll =
     → HasLeft columns (bytes_of files (data_id generation))
     (begun (length (bytes_of files (data_id generation))) None to (Some (record { at = 0; partition = None })))
     (range_of None to (map.entries table))
+
+-- where the bound names clustering components, their string has a byte
+abbrev pub NamesSome : Option BoundString → Type 0
+NamesSome bound = IfSome bound (λ b. IfSome b.clustering (λ string. 0 < length string))
+
+-- the place lies in a file of so many bytes, or at its end
+abbrev pub IsPlaceIn : ℕ → Option Start → Type 0
+IsPlaceIn limit start = IfSome start (λ s. s.at ≤ limit)
+
+-- over files that stand for a map, the search for the beginning of a range finds no damage, and a scan that begins
+-- where it comes to has exactly the map's entries of the range left
+abbrev pub RangeScanHasRange : Type 0
+RangeScanHasRange =
+    (files : Files) (generation : ℕ) (columns : Columns) (table : Table) (footer : FooterNumbers)
+    (from to : Option BoundString) (found : Result (Option Start) Damage)
+    → StandFor files generation columns table → HasFooter columns (bytes_of files (partitions_id generation)) footer
+    → IsBound columns from → NamesSome from → IsBound columns to
+    → BeginsScan (bytes_in columns files generation) footer from found
+    → (start : Option Start) × (found ≡ Ok start) × IsPlaceIn (length (bytes_of files (data_id generation))) start
+    × HasLeft columns (bytes_of files (data_id generation))
+    (begun (length (bytes_of files (data_id generation))) from to start) (range_of from to (map.entries table))
+
+-- a scan begins with these entries left, and no damage is told
+abbrev pub BeginsWith : Columns → List ℕ → List Entry → Result Scanning TableFault → Type 0
+BeginsWith columns file left (Ok scan) = HasLeft columns file scan left
+BeginsWith columns file left (Err (table_fault.Damaged damage)) = ⊥
+BeginsWith columns file left (Err table_fault.Unfinished) = ⊥
+BeginsWith columns file left (Err table_fault.StoreFault) = Unit {0}
+BeginsWith columns file left (Err table_fault.NoMemory) = Unit {0}
+
+-- over files that stand for a map, a scan of a range begins with exactly the map's entries of the range left
+abbrev pub ScansBeginWithRange : Type 0
+ScansBeginWithRange =
+    (files : Files) (generation : ℕ) (columns : Columns) (table : Table) (footer : FooterNumbers)
+    (from to : Option BoundString) (result : Result Scanning TableFault)
+    → StandFor files generation columns table → HasFooter columns (bytes_of files (partitions_id generation)) footer
+    → IsBound columns from → NamesSome from → IsBound columns to
+    → Scans (bytes_in columns files generation) footer from to result
+    → BeginsWith columns (bytes_of files (data_id generation)) (range_of from to (map.entries table)) result

@@ -17,7 +17,7 @@ use Rattle.table_reader.specs.declared.walker.EntryStrings.{EntryStrings}
 use Rattle.table_reader.specs.declared.walker.Met.{Met}
 use Rattle.table_reader.specs.declared.walker.Met.TheVariants.{Passed, Given, Done}
 use Rattle.table_reader.specs.declared.walker.Walker.{Walker}
-use Rattle.table_reader.specs.Window.{Continues, Unread}
+use Rattle.table_reader.specs.Window.{Continues, Unread, read_to}
 
 -- ---- entries and bounds
 
@@ -91,12 +91,14 @@ IsPast columns file (Some key) at to =
 
 -- over a table with these columns
 module _ (columns : Columns) where
-  -- over every file that the window is one of, the walk passes these entries, and the window is of the file still
+  -- over every file that the window is one of, the walk passes these entries, and the window is of the file still; nothing
+  -- more is read
   abbrev pub Moves : Walker → Walker → List Entry → Type 0
   Moves walk walk' entries = (walk.window.at < walk'.window.at) × (walk'.window.at ≤ walk'.window.limit)
       × (walk'.window.limit ≡ walk.window.limit)
       × ((file : List ℕ) → Continues file walk.window → Continues file walk'.window
       × Passes columns file (inside_of walk) walk.window.at entries (inside_of walk') walk'.window.at)
+      × (read_to walk'.window ≡ read_to walk.window) × (walk'.window.whole ≡ walk.window.whole)
 
   -- A step passes over what gives no entry or one below the range; or it gives an entry that is neither below nor above
   -- it, after which nothing counts as below; or the walk is at the range's end; or nothing sound stands there.

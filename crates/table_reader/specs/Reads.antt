@@ -66,3 +66,37 @@ abbrev pub IsBounded : TableBytes → FooterNumbers → List ℕ → Option (Lis
 IsBounded t footer key wanted old new =
     (most : ℕ) → HasSeparatorWithin t footer key wanted most
     → new ≤ old + length key + clustering_length wanted + most + 64
+
+-- ---- the same, whatever a call answers
+
+-- a search comes to no damage, and the path that it is to answer has at most so many bytes
+abbrev pub IsPathWithin : Answer → ℕ → Type 0
+IsPathWithin (Err wrong) most = ⊥
+IsPathWithin (Ok None) most = Unit {0}
+IsPathWithin (Ok (Some path)) most = length path.path ≤ most
+
+-- the separator of the block that a row index has for a key has at most so many bytes, and no damage is met
+abbrev pub IsSeparatorWithin : List ℕ → Option ℕ → List ℕ → ℕ → Type 0
+IsSeparatorWithin file None key most = Unit {0}
+IsSeparatorWithin file (Some root) key most = IsPathWithin (floor_in file root key) most
+
+-- the same of what is wanted of a partition; a static value is looked for in no block
+abbrev pub IsWantedWithin : List ℕ → Option ℕ → Option (List ℕ) → ℕ → Type 0
+IsWantedWithin file root None most = Unit {0}
+IsWantedWithin file root (Some row) most = IsSeparatorWithin file root row most
+
+-- the same where a number leads to a partition, and of a get, by the number that the partition index has
+abbrev pub IsSoundThere : TableBytes → ℤ → Option (List ℕ) → ℕ → Type 0
+IsSoundThere t number wanted most =
+    (there : PartitionAt) → LeadsTo t (partition_place number) (Ok there) → IsWantedWithin t.rows there.root wanted most
+
+abbrev pub IsSoundWithin : TableBytes → FooterNumbers → List ℕ → Option (List ℕ) → ℕ → Type 0
+IsSoundWithin t footer key wanted most =
+    (number : ℤ) → number_in t.partitions footer key ≡ Ok (Some number) → IsSoundThere t number wanted most
+
+-- Whatever a get answers, it reads the store as often at most as its two strings and the separator of its block have
+-- bytes, and 64 times more, where the row index names the block without damage.
+abbrev pub IsAlwaysBounded : TableBytes → FooterNumbers → List ℕ → Option (List ℕ) → ℕ → ℕ → Type 0
+IsAlwaysBounded t footer key wanted old new =
+    (most : ℕ) → IsSoundWithin t footer key wanted most
+    → new ≤ old + (length key + 64 + clustering_length wanted + most)

@@ -1,5 +1,5 @@
 -- Where a scan over a range begins, and what it gives. This project's own.
-use Rattle.std.specs.Prelude.{◌≡◌, ◌⊎◌, ℕ, ◌<◌, false, List, [], length, Option, None, Some, Result, Ok, Err, IfSome}
+use Rattle.std.specs.Prelude.{◌≡◌, ◌⊎◌, ℕ, ◌<◌, ◌≤◌, ◌^◌, false, List, [], length, Option, None, Some, Result, Ok, Err, IfSome}
 use Rattle.outside.specs.Files.{Files, bytes_of}
 use Rattle.key_types.specs.Columns.{Columns}
 use Rattle.bti_nodes.specs.declared.damage.Cause.TheVariants.{BadRow}
@@ -14,7 +14,7 @@ use Rattle.table_reader.specs.declared.seek.BoundString.{BoundString}
 use Rattle.table_reader.specs.declared.seek.Start.{Start}
 use Rattle.table_reader.specs.declared.walker.EntryStrings.{EntryStrings}
 use Rattle.table_reader.specs.declared.walker.Walker.{Walker}
-use Rattle.table_reader.specs.Ranges.{Gives, Scanning, scanning_of}
+use Rattle.table_reader.specs.Ranges.{Gives, IsEntryOf, IsOpen, Scanning, inside_of, scanning_of}
 use Rattle.table_reader.specs.Gets.{TableBytes}
 use Rattle.table_reader.specs.Seeking.{BeginsScan}
 use Rattle.table_reader.specs.Window.{Continues, Unread}
@@ -35,6 +35,17 @@ IsBehindEnd limit (Some start) (data_error.Damaged damage) = (limit < start.at) 
 IsBehindEnd limit start data_error.StoreFault = Unit {0}
 IsBehindEnd limit start data_error.NoMemory = Unit {0}
 
+-- the string of the partition in which a scan begins
+abbrev pub inside_at : Option Start → Option (List ℕ)
+inside_at None = None
+inside_at (Some start) = start.partition
+
+-- a walk stands there, in a file of fewer than 2^62 bytes or at its end
+pub record IsPlaced (start : Option Start) (walk : Walker) : Type 0 where
+  pub at : walk.window.at ≤ walk.window.limit
+  pub limit : walk.window.limit < 2 ^ 62
+  pub inside : inside_of walk ≡ inside_at start
+
 -- the walk that begins there, or why there is none
 abbrev pub BeginsWalk : ℕ → Option BoundString → Option BoundString → Option Start → Result Walker DataError → Type 0
 BeginsWalk limit from to start (Ok walk) = scanning_of walk ≡ begun limit from to start
@@ -51,6 +62,19 @@ Scans table footer from to (Err (Damaged damage)) = BeginsScan table footer from
 Scans table footer from to (Err Unfinished) = ⊥
 Scans table footer from to (Err StoreFault) = Unit {0}
 Scans table footer from to (Err NoMemory) = Unit {0}
+
+-- whatever the store tells, a scan stands in a file of fewer than 2^62 bytes or at its end, in a partition of the table or
+-- in none
+pub record IsInFile (columns : Columns) (scan : Scanning) : Type 0 where
+  pub at : scan.window.at ≤ scan.window.limit
+  pub limit : scan.window.limit < 2 ^ 62
+  pub inside : IsOpen columns scan.inside
+
+-- and it goes on to an entry: further on in the file, and in a partition of the table it gives strings of the table
+pub record GoesTo (columns : Columns) (scan scan' : Scanning) (entry : EntryStrings) : Type 0 where
+  pub further : scan.window.at < scan'.window.at
+  pub at : scan'.window.at ≤ scan'.window.limit
+  pub strings : IsOpen columns scan.inside → IsOpen columns scan'.inside × IsEntryOf columns entry
 
 -- what a scan holds is of the table's Data.db, where the store tells it
 abbrev pub ScanStands : Option Files → ℕ → Scanning → Type 0

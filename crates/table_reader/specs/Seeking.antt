@@ -22,6 +22,15 @@ use Rattle.table_reader.specs.declared.seek.Start.{Start}
 
 -- ---- the files
 
+-- a scan begins in no partition, or in that of this string
+abbrev pub IsInOf : List ℕ → Option Start → Type 0
+IsInOf string start = IfSome start (λ s. IfSome s.partition (λ partition. partition ≡ string))
+
+-- the same of the bound from which it goes; without one it begins in no partition
+abbrev pub IsInBound : Option BoundString → Option Start → Type 0
+IsInBound None start = IfSome start (λ s. s.partition ≡ None)
+IsInBound (Some bound) start = IsInOf bound.partition start
+
 -- where the files are told, the file has so many bytes
 abbrev pub EndsAt : Option Files → FileId → ℕ → Type 0
 EndsAt files file limit = IfSome files (λ m. length (bytes_of m file) ≡ limit)

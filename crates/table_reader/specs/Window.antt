@@ -1,5 +1,5 @@
 -- Bytes of a file that were read and are not yet used. This project's own.
-use Rattle.std.specs.Prelude.{◌≡◌, ◌⊎◌, ℕ, ◌≤◌, Bool, true, List, [], ◌++◌, length, drop}
+use Rattle.std.specs.Prelude.{◌≡◌, ◌⊎◌, ℕ, ◌+◌, ◌*◌, ◌≤◌, Bool, true, false, List, [], ◌++◌, length, drop}
 
 -- the unused bytes, the place of the first of them, the length of the file, and whether the file ends behind the bytes
 pub record Unread : Type 0 where
@@ -22,3 +22,17 @@ enough = 66564
 -- the longest row is among the unused bytes, or they are all
 abbrev pub HasEnough : Unread → Type 0
 HasEnough window = (window.whole ≡ true) ⊎ (enough ≤ length window.bytes)
+
+-- the place up to which the file was read
+abbrev pub read_to : Unread → ℕ
+read_to window = window.at + length window.bytes
+
+-- the last page of a file may have any number of bytes, and counts as a whole one
+abbrev pub last_page : Bool → ℕ
+last_page true = 4096
+last_page false = 0
+
+-- from one window to another there were so many reads at most as whole pages were read
+abbrev pub PaysReads : Unread → Unread → ℕ → ℕ → Type 0
+PaysReads window window' before after =
+    4096 * after + read_to window + last_page window.whole ≤ 4096 * before + read_to window' + last_page window'.whole

@@ -1,6 +1,6 @@
 //! The block of a partition in which a row is looked for: the last one whose separator isn't above the row's string, by
 //! the row index, and else the first. A get calls these with the partition's place.
-ghost use Rattle.std.specs.Prelude.{◌≡◌, ◌<◌, ◌≤◌, ◌+◌, ◌-◌, ◌^◌, length, drop, Err, IfErr, IfOk, IfSome, IsSome, OnOk};
+ghost use Rattle.std.specs.Prelude.{◌≡◌, ◌<◌, ◌≤◌, ◌+◌, ◌-◌, ◌^◌, ℕ, length, drop, Err, IfErr, IfOk, IfSome, IsSome, OnOk};
 ghost use Rattle.outside.specs.Causes.{Rose};
 ghost use Rattle.outside.specs.Files.{bytes_of};
 ghost use Rattle.key_types.specs.Columns.{columns_of};
@@ -8,7 +8,7 @@ ghost use Rattle.page_cache.specs.Pages.{Honest};
 ghost use Rattle.data_file.specs.Answers.{IsStaticPart};
 ghost use Rattle.table_files.specs.Names.{data_id, rows_id};
 ghost use Rattle.table_reader.specs.Gets.{FindsBlock, FindsStatic, FirstBlock, bytes_in, offset_in};
-ghost use Rattle.table_reader.specs.Reads.{Ends, separator_length};
+ghost use Rattle.table_reader.specs.Reads.{Ends, IsSeparatorWithin, separator_length};
 
 use crate::place::{PartitionAt, damaged, is_beyond};
 use bti_nodes::Cause;
@@ -125,6 +125,9 @@ fn offset_of<K: Store>(
     ensures files { K.files store.new ≡ K.files store.old }
     ensures reads { IfSome (K.files store.old) (λ m. OnOk result (K.reads store.new ≤ K.reads store.old
         + length key.now + 1 + separator_length (bytes_of m (rows_id generation)) root key.now)) }
+    ensures within { IfSome (K.files store.old) (λ m. (most : ℕ)
+        → IsSeparatorWithin (bytes_of m (rows_id generation)) root key.now most
+        → K.reads store.new ≤ K.reads store.old + (length key.now + 1 + most)) }
     ensures later { K.faults store.old ≤ K.faults store.new }
     ensures fault { result ≡ Err DataError.StoreFault → Rose (K.faults store.old) (K.faults store.new) }
 {
@@ -160,6 +163,9 @@ pub fn block_of<K: Store>(
     ensures files { K.files store.new ≡ K.files store.old }
     ensures reads { IfSome (K.files store.old) (λ m. OnOk result (K.reads store.new ≤ K.reads store.old
         + length key.now + 19 + separator_length (bytes_of m (rows_id generation)) there.root key.now)) }
+    ensures within { IfSome (K.files store.old) (λ m. (most : ℕ)
+        → IsSeparatorWithin (bytes_of m (rows_id generation)) there.root key.now most
+        → K.reads store.new ≤ K.reads store.old + (length key.now + 19 + most)) }
     ensures later { K.faults store.old ≤ K.faults store.new }
     ensures fault { result ≡ Err DataError.StoreFault → Rose (K.faults store.old) (K.faults store.new) }
 {

@@ -8,7 +8,8 @@ ghost use Rattle.page_cache.specs.Pages.{Honest};
 ghost use Rattle.table_files.specs.Names.{rows_id};
 ghost use Rattle.outside.specs.Files.{bytes_of};
 ghost use Rattle.table_reader.specs.Gets.{FindsInside, FindsThere, Gets, bytes_in};
-ghost use Rattle.table_reader.specs.Reads.{Ends, IsBounded, IsWithinThere, block_length, clustering_length};
+ghost use Rattle.table_reader.specs.Reads.{block_length, clustering_length, Ends, IsBounded, IsWithinThere};
+ghost use Rattle.table_reader.specs.Reads.{IsAlwaysBounded, IsSoundThere, IsWantedWithin};
 
 use crate::block_at::{block_of, static_value};
 use crate::place::{PartitionAt, behind_head, number_of, place_of};
@@ -40,6 +41,9 @@ fn value_inside<K: Store>(
     ensures files { K.files store.new ≡ K.files store.old }
     ensures reads { IfSome (K.files store.old) (λ m. OnOk result (K.reads store.new ≤ K.reads store.old + 41
         + block_length (bytes_of m (rows_id generation)) there.root (option_copied wanted.entry))) }
+    ensures within { IfSome (K.files store.old) (λ m. (most : ℕ)
+        → IsWantedWithin (bytes_of m (rows_id generation)) there.root (option_copied wanted.entry) most
+        → K.reads store.new ≤ K.reads store.old + (41 + clustering_length (option_copied wanted.entry) + most)) }
     ensures later { K.faults store.old ≤ K.faults store.new }
     ensures fault { result ≡ Err DataError.StoreFault → Rose (K.faults store.old) (K.faults store.new) }
 {
@@ -69,6 +73,9 @@ fn value_there<K: Store>(
     ensures reads { IfSome (K.files store.old) (λ m. OnOk result ((most : ℕ)
         → IsWithinThere (bytes_in (columns_of schema.now) m generation) number (option_copied wanted.entry) most
         → K.reads store.new ≤ K.reads store.old + 45 + clustering_length (option_copied wanted.entry) + most)) }
+    ensures within { IfSome (K.files store.old) (λ m. (most : ℕ)
+        → IsSoundThere (bytes_in (columns_of schema.now) m generation) number (option_copied wanted.entry) most
+        → K.reads store.new ≤ K.reads store.old + (45 + clustering_length (option_copied wanted.entry) + most)) }
     ensures later { K.faults store.old ≤ K.faults store.new }
     ensures fault { result ≡ Err DataError.StoreFault → Rose (K.faults store.old) (K.faults store.new) }
 {
@@ -100,6 +107,9 @@ pub fn value_of<K: Store>(
     ensures reads { IfSome (K.files store.old) (λ m. OnOk result (IsBounded
         (bytes_in (columns_of schema.now) m generation) footer key.now (option_copied wanted.entry)
         (K.reads store.old) (K.reads store.new))) }
+    ensures within { IfSome (K.files store.old) (λ m. IsAlwaysBounded
+        (bytes_in (columns_of schema.now) m generation) footer key.now (option_copied wanted.entry)
+        (K.reads store.old) (K.reads store.new)) }
     ensures later { K.faults store.old ≤ K.faults store.new }
     ensures fault { result ≡ Err DataError.StoreFault → Rose (K.faults store.old) (K.faults store.new) }
 {

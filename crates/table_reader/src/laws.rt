@@ -1,6 +1,6 @@
 //! What a get finds in whole files, and what a scan gives of its range. The commands over a table's files stand on it.
-ghost use Rattle.table_reader.specs.Laws.{FootersStand, GetsAreOfMap, OrderIsOfStrings};
-ghost use Rattle.table_reader.specs.Left.{ScansGiveRange, WholeScanHasAll};
+ghost use Rattle.table_reader.specs.Laws.{FootersStand, GetsAreBounded, GetsAreOfMap, OrderIsOfStrings};
+ghost use Rattle.table_reader.specs.Left.{RangeScanHasRange, ScansBeginWithRange, ScansGiveRange, WholeScanHasAll};
 
 /// Over files that stand for a map, indexes and all, a get finds what the map has at the key.
 pub fn law_gets()
@@ -28,4 +28,20 @@ pub fn law_scans()
 /// above its upper bound.
 pub fn law_whole_scan()
     ensures { WholeScanHasAll }
+{}
+
+/// Over files that stand for a map, the search for the beginning of a range comes to a place at which a scan begins
+/// with exactly the range's entries left.
+pub fn law_ranges()
+    ensures { RangeScanHasRange }
+{}
+
+/// The same of what `scan_between` answers: over such files it tells no damage.
+pub fn law_begun_ranges()
+    ensures { ScansBeginWithRange }
+{}
+
+/// Over such files a get meets no damage, so its bound on reads holds whatever it answers.
+pub fn law_get_reads()
+    ensures { GetsAreBounded }
 {}

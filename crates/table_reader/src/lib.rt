@@ -19,7 +19,10 @@ mod window;
 
 pub use block::{Stop, find_row};
 pub use fault::TableFault;
-pub use laws::{law_footers, law_gets, law_order, law_scans, law_whole_scan};
+pub use laws::{
+    law_begun_ranges, law_footers, law_get_reads, law_gets, law_order, law_ranges, law_scans,
+    law_whole_scan,
+};
 pub use scan::Scan;
 pub use seek::{BoundString, Start};
 pub use table::OpenTable;

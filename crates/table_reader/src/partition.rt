@@ -1,6 +1,6 @@
 //! Partitions that the indexes name: what stands at a partition's head in Data.db, and where a block of it begins. A scan
 //! calls these when it looks for its beginning. What is answered is what stands in the files; nothing is held.
-ghost use Rattle.std.specs.Prelude.{◌≡◌, ◌<◌, ◌≤◌, ◌+◌, ◌^◌, drop, length, Err, IfOk, IfSome};
+ghost use Rattle.std.specs.Prelude.{◌≡◌, ◌<◌, ◌≤◌, ◌+◌, ◌^◌, ℕ, drop, length, Err, IfOk, IfSome};
 ghost use Rattle.outside.specs.Causes.{Rose};
 ghost use Rattle.outside.specs.Files.{bytes_of};
 ghost use Rattle.key_types.specs.Columns.{columns_of};
@@ -8,7 +8,7 @@ ghost use Rattle.page_cache.specs.Pages.{Honest};
 ghost use Rattle.data_file.specs.Answers.{IsHead};
 ghost use Rattle.table_files.specs.Names.{data_id, rows_id};
 ghost use Rattle.table_reader.specs.Gets.{bytes_in};
-ghost use Rattle.table_reader.specs.Reads.{Ends, separator_length};
+ghost use Rattle.table_reader.specs.Reads.{Ends, IsSeparatorWithin, separator_length};
 ghost use Rattle.table_reader.specs.Seeking.{BeginsBlock, EndsAt, HasRows};
 
 use crate::place::{PartitionAt, damaged};
@@ -105,6 +105,9 @@ pub fn block<K: Store>(
     ensures files { K.files store.new ≡ K.files store.old }
     ensures reads { IfSome (K.files store.old) (λ m. IfOk result (λ _. K.reads store.new ≤ K.reads store.old
         + (length clustering.now + separator_length (bytes_of m (rows_id table.generation)) place.root clustering.now + 19))) }
+    ensures within { IfSome (K.files store.old) (λ m. (most : ℕ)
+        → IsSeparatorWithin (bytes_of m (rows_id table.generation)) place.root clustering.now most
+        → K.reads store.new ≤ K.reads store.old + (length clustering.now + 19 + most)) }
     ensures later { K.faults store.old ≤ K.faults store.new }
     ensures fault { result ≡ Err DataError.StoreFault → Rose (K.faults store.old) (K.faults store.new) }
 {

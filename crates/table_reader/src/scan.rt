@@ -1,15 +1,17 @@
 //! Scans over a range of a table's entries, in the order of their strings. `scan_between` finds where the range begins,
 //! and `next_entry` gives its entries one by one. Between two calls a scan holds what it has read ahead of Data.db.
-ghost use Rattle.std.specs.Prelude.{◌≡◌, ◌≤◌, ◌+◌, ◌<◌, ◌^◌, length, Err, IfOk, IfSome, IsSome};
+ghost use Rattle.std.specs.Prelude.{◌≡◌, ◌≤◌, ◌+◌, ◌*◌, ◌<◌, ◌^◌, length, max, Err, IfOk, IfSome, IsSome};
 ghost use Rattle.outside.specs.Causes.{Rose};
 ghost use Rattle.outside.specs.Files.{bytes_of};
 ghost use Rattle.key_types.specs.Columns.{columns_of};
 ghost use Rattle.table_files.specs.Names.{data_id};
 ghost use Rattle.table_reader.specs.Opened.{StandsIn};
 ghost use Rattle.table_reader.specs.Ranges.{scanning_of};
-ghost use Rattle.table_reader.specs.Scans.{unread_at, BeginsWalk, GivesNext, Scans, ScanStands};
-ghost use Rattle.table_reader.specs.SeekReads.{WithinScan};
+ghost use Rattle.table_reader.specs.Scans.{unread_at, BeginsWalk, GivesNext, GoesTo, IsInFile, IsPlaced, Scans, ScanStands};
+ghost use Rattle.table_reader.specs.Left.{IsBound};
+ghost use Rattle.table_reader.specs.SeekReads.{AlwaysWithinScan, WithinScan};
 ghost use Rattle.table_reader.specs.Gets.{bytes_in};
+ghost use Rattle.table_reader.specs.Window.{read_to};
 
 use crate::fault::TableFault;
 use crate::next::next_of;
@@ -73,6 +75,7 @@ fn walk_from(
 ) -> Result<Walker, DataError>
     requires { limit < 2 ^ 62 }
     ensures begins { BeginsWalk limit from to start result }
+    ensures placed { IfOk result (IsPlaced start) }
     ensures fault { ¬ (result ≡ Err DataError.StoreFault) }
 {
     let Some(start) = start else {
@@ -94,6 +97,7 @@ fn begin<K: Store>(
     start: Option<Start>,
 ) -> Result<Walker, DataError>
     ensures begins { IfSome (K.files store.old) (λ m. BeginsWalk (length (bytes_of m (data_id generation))) from to start result) }
+    ensures placed { IfOk result (IsPlaced start) }
     ensures files { K.files store.new ≡ K.files store.old }
     ensures reads { K.reads store.new ≡ K.reads store.old }
     ensures later { K.faults store.old ≤ K.faults store.new }
@@ -118,11 +122,17 @@ impl OpenTable {
             Scans (bytes_in (columns_of self.old.schema) m self.old.generation) footer from to result)) }
         ensures stands { StandsIn (K.files store.new) self.new }
         ensures scan { IfOk result (ScanStands (K.files store.new) self.old.generation) }
+        ensures place { IfOk result (λ scan. IsBound (columns_of self.old.schema) from
+            → IsInFile (columns_of self.old.schema) scan) }
+        ensures whole { ¬ (result ≡ Err TableFault.Unfinished) }
         ensures same { self.new ≡ record self.old { pages = self.new.pages } }
         ensures files { K.files store.new ≡ K.files store.old }
         ensures reads { IfSome (K.files store.old) (λ m. IfSome self.old.footer (λ footer. IfOk result (λ _. WithinScan
             (bytes_in (columns_of self.old.schema) m self.old.generation) footer from
             (K.reads store.old) (K.reads store.new)))) }
+        ensures within { IfSome (K.files store.old) (λ m. IfSome self.old.footer (λ footer. AlwaysWithinScan
+            (bytes_in (columns_of self.old.schema) m self.old.generation) footer from
+            (K.reads store.old) (K.reads store.new))) }
         ensures later { K.faults store.old ≤ K.faults store.new }
         ensures fault { result ≡ Err TableFault.StoreFault → Rose (K.faults store.old) (K.faults store.new) }
     {
@@ -142,7 +152,13 @@ impl OpenTable {
         ensures gives { IfSome (K.files store.old) (λ m. GivesNext (columns_of self.now.schema)
             (bytes_of m (data_id self.now.generation)) scan.old scan.new result) }
         ensures scan { ScanStands (K.files store.new) self.now.generation scan.new }
+        ensures further { IfOk result (λ found. IfSome found (GoesTo (columns_of self.now.schema) scan.old scan.new)) }
+        ensures limit { scan.new.window.limit ≡ scan.old.window.limit }
+        ensures whole { ¬ (result ≡ Err TableFault.Unfinished) }
         ensures files { K.files store.new ≡ K.files store.old }
+        ensures reads { 4096 * K.reads store.new + read_to scan.old.window
+            ≤ 4096 * K.reads store.old + read_to scan.new.window + 8192 }
+        ensures ahead { length scan.new.window.bytes ≤ max (length scan.old.window.bytes) 86016 }
         ensures later { K.faults store.old ≤ K.faults store.new }
         ensures fault { result ≡ Err TableFault.StoreFault → Rose (K.faults store.old) (K.faults store.new) }
     {

@@ -1,6 +1,6 @@
 //! Where a walk over Data.db begins that wants the entries of a table from a bound on. A scan calls `seek`, by whichever
 //! walk it goes on. The search goes through the index files alone, and reads the head of each partition that it comes to.
-ghost use Rattle.std.specs.Prelude.{◌≡◌, ◌<◌, ◌≤◌, ◌+◌, ◌^◌, length, option_copied, Err, IfOk, IfSome, IsSome, Some};
+ghost use Rattle.std.specs.Prelude.{◌≡◌, ◌<◌, ◌≤◌, ◌+◌, ◌^◌, ℕ, length, option_copied, Err, IfOk, IfSome, IsSome, Some};
 ghost use Rattle.outside.specs.Causes.{Rose};
 ghost use Rattle.outside.specs.Files.{bytes_of};
 ghost use Rattle.key_types.specs.Columns.{columns_of};
@@ -10,9 +10,10 @@ ghost use Rattle.data_file.specs.Listing.{head_bytes};
 ghost use Rattle.table_files.specs.Names.{data_id, partitions_id, rows_id};
 ghost use Rattle.table_reader.specs.Opened.{StandsIn};
 ghost use Rattle.table_reader.specs.Gets.{bytes_in};
-ghost use Rattle.table_reader.specs.Reads.{clustering_length, path_length, Ends, EndsCall};
-ghost use Rattle.table_reader.specs.Seeking.{at_head, BeginsFrom, BeginsNext, BeginsScan, BeginsWithin, EndsAt, Seeks};
+ghost use Rattle.table_reader.specs.Reads.{clustering_length, path_length, Ends, EndsCall, IsPathWithin, IsWantedWithin};
+ghost use Rattle.table_reader.specs.Seeking.{at_head, BeginsFrom, BeginsNext, BeginsScan, BeginsWithin, EndsAt, IsInBound, IsInOf, Seeks};
 ghost use Rattle.table_reader.specs.SeekReads.{block_len, WithinFrom, WithinScan, WithinSeek};
+ghost use Rattle.table_reader.specs.SeekReads.{AlwaysWithinFrom, AlwaysWithinScan, AlwaysWithinSeek};
 
 use crate::fault::TableFault;
 use crate::partition::{Searched, block, head_at};
@@ -66,10 +67,14 @@ fn next_partition<K: Store>(
     requires ends { EndsAt (K.files store.old) (data_id table.generation) table.limit }
     ensures begins { IfSome (K.files store.old) (λ m.
         Ends (BeginsNext (bytes_in (columns_of schema.now) m table.generation) table.root string.now) result) }
+    ensures inside { IfOk result (IsInOf string.now) }
     ensures honest { Honest (K.files store.new) pages.new }
     ensures files { K.files store.new ≡ K.files store.old }
     ensures reads { IfSome (K.files store.old) (λ m. IfOk result (λ _. K.reads store.new ≤ K.reads store.old
         + (length string.now + path_length (ceiling_in (bytes_of m (partitions_id table.generation)) table.root string.now) + 5))) }
+    ensures within { IfSome (K.files store.old) (λ m. (next : ℕ)
+        → IsPathWithin (ceiling_in (bytes_of m (partitions_id table.generation)) table.root string.now) next
+        → K.reads store.new ≤ K.reads store.old + (length string.now + 5 + next)) }
     ensures later { K.faults store.old ≤ K.faults store.new }
     ensures fault { result ≡ Err DataError.StoreFault → Rose (K.faults store.old) (K.faults store.new) }
 {
@@ -107,11 +112,15 @@ fn within<K: Store>(
     ensures begins { IfSome (K.files store.old) (λ m. (head.rows_at ≡ place.head + length (head_bytes head.partition))
         → Ends (BeginsWithin (bytes_in (columns_of schema.now) m table.generation) place head.partition
         bound.now.clustering) result) }
+    ensures inside { IfOk result (IsInOf head.partition) }
     ensures honest { Honest (K.files store.new) pages.new }
     ensures files { K.files store.new ≡ K.files store.old }
     ensures reads { IfSome (K.files store.old) (λ m. IfOk result (λ _. K.reads store.new ≤ K.reads store.old
         + (clustering_length bound.now.clustering
         + block_len (bytes_of m (rows_id table.generation)) bound.now.clustering place.root + 19))) }
+    ensures within { IfSome (K.files store.old) (λ m. (most : ℕ)
+        → IsWantedWithin (bytes_of m (rows_id table.generation)) place.root bound.now.clustering most
+        → K.reads store.new ≤ K.reads store.old + (clustering_length bound.now.clustering + 19 + most)) }
     ensures later { K.faults store.old ≤ K.faults store.new }
     ensures fault { result ≡ Err DataError.StoreFault → Rose (K.faults store.old) (K.faults store.new) }
 {
@@ -150,11 +159,15 @@ fn by_partition<K: Store>(
     requires ends { EndsAt (K.files store.old) (data_id table.generation) table.limit }
     ensures begins { IfSome (K.files store.old) (λ m. Ends
         (BeginsFrom (bytes_in (columns_of schema.now) m table.generation) table.root bound.now (Some number)) result) }
+    ensures inside { IfOk result (IsInOf bound.now.partition) }
     ensures honest { Honest (K.files store.new) pages.new }
     ensures files { K.files store.new ≡ K.files store.old }
     ensures reads { IfSome (K.files store.old) (λ m. IfOk result (λ _. WithinFrom
         (bytes_in (columns_of schema.now) m table.generation) table.root bound.now (Some number)
         (K.reads store.old + (length bound.now.partition + 23)) (K.reads store.new))) }
+    ensures within { IfSome (K.files store.old) (λ m. AlwaysWithinFrom
+        (bytes_in (columns_of schema.now) m table.generation) table.root bound.now (Some number)
+        (K.reads store.old + (length bound.now.partition + 23)) (K.reads store.new)) }
     ensures later { K.faults store.old ≤ K.faults store.new }
     ensures fault { result ≡ Err DataError.StoreFault → Rose (K.faults store.old) (K.faults store.new) }
 {
@@ -188,10 +201,13 @@ fn search<K: Store>(
     requires honest { Honest (K.files store.old) pages.old }
     ensures seeks { IfSome (K.files store.old) (λ m.
         Ends (Seeks (bytes_in (columns_of schema.now) m generation) root bound.now) result) }
+    ensures inside { IfOk result (IsInOf bound.now.partition) }
     ensures honest { Honest (K.files store.new) pages.new }
     ensures files { K.files store.new ≡ K.files store.old }
     ensures reads { IfSome (K.files store.old) (λ m. IfOk result (λ _. WithinSeek
         (bytes_in (columns_of schema.now) m generation) root bound.now (K.reads store.old) (K.reads store.new))) }
+    ensures within { IfSome (K.files store.old) (λ m. AlwaysWithinSeek
+        (bytes_in (columns_of schema.now) m generation) root bound.now (K.reads store.old) (K.reads store.new)) }
     ensures later { K.faults store.old ≤ K.faults store.new }
     ensures fault { result ≡ Err DataError.StoreFault → Rose (K.faults store.old) (K.faults store.new) }
 {
@@ -222,12 +238,17 @@ impl OpenTable {
         requires footer { IsSome self.old.footer }
         ensures begins { IfSome (K.files store.old) (λ m. IfSome self.old.footer (λ footer. EndsCall
             (BeginsScan (bytes_in (columns_of self.old.schema) m self.old.generation) footer (option_copied from.entry)) result)) }
+        ensures inside { IfOk result (IsInBound (option_copied from.entry)) }
+        ensures whole { ¬ (result ≡ Err TableFault.Unfinished) }
         ensures stands { StandsIn (K.files store.new) self.new }
         ensures same { self.new ≡ record self.old { pages = self.new.pages } }
         ensures files { K.files store.new ≡ K.files store.old }
         ensures reads { IfSome (K.files store.old) (λ m. IfSome self.old.footer (λ footer. IfOk result (λ _. WithinScan
             (bytes_in (columns_of self.old.schema) m self.old.generation) footer (option_copied from.entry)
             (K.reads store.old) (K.reads store.new)))) }
+        ensures within { IfSome (K.files store.old) (λ m. IfSome self.old.footer (λ footer. AlwaysWithinScan
+            (bytes_in (columns_of self.old.schema) m self.old.generation) footer (option_copied from.entry)
+            (K.reads store.old) (K.reads store.new))) }
         ensures later { K.faults store.old ≤ K.faults store.new }
         ensures fault { result ≡ Err TableFault.StoreFault → Rose (K.faults store.old) (K.faults store.new) }
     {

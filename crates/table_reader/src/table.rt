@@ -3,13 +3,14 @@
 //! them.
 ghost use Rattle.std.specs.Prelude.{◌≡◌, ◌≤◌, ◌+◌, [], Err, IfOk, IfSome, IsSome, None, OnErr, OnOk};
 ghost use Rattle.std.specs.Prelude.{option_copied};
+ghost use Rattle.bti_nodes.specs.declared.damage.Damage.{Damage};
 ghost use Rattle.outside.specs.Causes.{Rose};
 ghost use Rattle.outside.specs.Files.{bytes_of};
 ghost use Rattle.key_types.specs.Columns.{columns_of};
 ghost use Rattle.table_files.specs.Names.{partitions_id, schema_id};
 ghost use Rattle.table_reader.specs.Gets.{Gets, bytes_in};
 ghost use Rattle.table_reader.specs.Opened.{LoadsFooter, OpensTable, StandsIn};
-ghost use Rattle.table_reader.specs.Reads.{EndsCall, IsBounded};
+ghost use Rattle.table_reader.specs.Reads.{EndsCall, IsAlwaysBounded, IsBounded};
 
 use crate::fault::TableFault;
 use crate::get::value_of;
@@ -57,7 +58,9 @@ impl OpenTable {
         ensures generation { IfOk result (λ t. t.generation ≡ generation) }
         ensures footer { IfOk result (λ t. t.footer ≡ None) }
         ensures pages { IfOk result (λ t. t.pages ≡ []) }
+        ensures sound { (damage : Damage) → ¬ (result ≡ Err (TableFault.Damaged damage)) }
         ensures files { K.files store.new ≡ K.files store.old }
+        ensures reads { K.reads store.new ≤ K.reads store.old + 1 }
         ensures later { K.faults store.old ≤ K.faults store.new }
         ensures fault { result ≡ Err TableFault.StoreFault → Rose (K.faults store.old) (K.faults store.new) }
     {
@@ -91,6 +94,7 @@ impl OpenTable {
         ensures same { self.new ≡ record self.old { footer = self.new.footer; pages = self.new.pages } }
         ensures loaded { OnOk result (IsSome self.new.footer) }
         ensures kept { OnErr result (self.new.footer ≡ self.old.footer) }
+        ensures whole { ¬ (result ≡ Err TableFault.Unfinished) }
         ensures files { K.files store.new ≡ K.files store.old }
         ensures reads { K.reads store.new ≤ K.reads store.old + 2 }
         ensures later { K.faults store.old ≤ K.faults store.new }
@@ -126,6 +130,9 @@ impl OpenTable {
         ensures reads { IfSome (K.files store.old) (λ m. IfSome self.old.footer (λ footer. OnOk result (IsBounded
             (bytes_in (columns_of self.old.schema) m self.old.generation) footer partition.now
             (option_copied clustering.entry) (K.reads store.old) (K.reads store.new)))) }
+        ensures within { IfSome (K.files store.old) (λ m. IfSome self.old.footer (λ footer. IsAlwaysBounded
+            (bytes_in (columns_of self.old.schema) m self.old.generation) footer partition.now
+            (option_copied clustering.entry) (K.reads store.old) (K.reads store.new))) }
         ensures later { K.faults store.old ≤ K.faults store.new }
         ensures fault { result ≡ Err TableFault.StoreFault → Rose (K.faults store.old) (K.faults store.new) }
     {

@@ -1,10 +1,10 @@
 //! A file, read ahead in pages from a place on. A scan walks over Data.db in one; what it holds is what the file has there,
 //! and a row is looked at only where all of it is held or nothing more is there.
-ghost use Rattle.std.specs.Prelude.{◌≡◌, ◌≤◌, ◌+◌, ◌*◌, ◌<◌, ◌^◌, [], true, false, drop, length, IfErr, IfOk, IfSome, Err};
+ghost use Rattle.std.specs.Prelude.{◌≡◌, ◌≤◌, ◌+◌, ◌*◌, ◌<◌, ◌^◌, [], true, false, drop, length, max, IfErr, IfOk, IfSome, Err};
 ghost use Rattle.outside.specs.Causes.{Rose};
 ghost use Rattle.outside.specs.Files.{bytes_of};
 ghost use Rattle.data_file.specs.Answers.{IsStop};
-ghost use Rattle.table_reader.specs.Window.{Continues, HasEnough};
+ghost use Rattle.table_reader.specs.Window.{Continues, HasEnough, PaysReads};
 
 use data_file::DataError;
 use key_types::{ByteList, NoMemory};
@@ -108,7 +108,9 @@ impl Window {
         ensures stops { IfErr result IsStop }
         ensures more { IfOk result (λ more. more ≡ true → length self.new.bytes ≡ length self.old.bytes + 4096) }
         ensures end { IfOk result (λ more. more ≡ false → self.new.whole ≡ true) }
+        ensures on { IfOk result (λ more. more ≡ true → self.new.whole ≡ self.old.whole) }
         ensures grown { length self.old.bytes ≤ length self.new.bytes }
+        ensures most { length self.new.bytes ≤ length self.old.bytes + 4096 }
         ensures place { self.new.at ≡ self.old.at }
         ensures limit { self.new.limit ≡ self.old.limit }
         ensures files { K.files store.new ≡ K.files store.old }
@@ -130,6 +132,8 @@ impl Window {
     /// Reads the file ahead page by page, until there is enough of it or it ends.
     #[inline(never)]
     fn read_ahead<K: Store>(&mut self, store: &mut K, file: FileId) -> Result<(), DataError>
+        requires open { self.old.whole ≡ false }
+        requires few { length self.old.bytes < 66564 }
         ensures told { IfSome (K.files store.old) (λ m. Continues (bytes_of m file) self.old → Continues (bytes_of m file) self.new) }
         ensures stops { IfErr result IsStop }
         ensures full { IfOk result (λ _. HasEnough self.new) }
@@ -138,6 +142,8 @@ impl Window {
         ensures files { K.files store.new ≡ K.files store.old }
         ensures kept { length self.old.bytes ≤ length self.new.bytes }
         ensures reads { 4096 * K.reads store.new + length self.old.bytes ≤ 4096 * K.reads store.old + length self.new.bytes + 4096 }
+        ensures paid { IfOk result (λ _. PaysReads self.old self.new (K.reads store.old) (K.reads store.new)) }
+        ensures ahead { length self.new.bytes ≤ 86016 }
         ensures later { K.faults store.old ≤ K.faults store.new }
         ensures fault { result ≡ Err DataError.StoreFault → Rose (K.faults store.old) (K.faults store.new) }
     {
@@ -162,6 +168,8 @@ impl Window {
         ensures files { K.files store.new ≡ K.files store.old }
         ensures kept { length self.old.bytes ≤ length self.new.bytes }
         ensures reads { 4096 * K.reads store.new + length self.old.bytes ≤ 4096 * K.reads store.old + length self.new.bytes + 4096 }
+        ensures paid { IfOk result (λ _. PaysReads self.old self.new (K.reads store.old) (K.reads store.new)) }
+        ensures ahead { length self.new.bytes ≤ max (length self.old.bytes) 86016 }
         ensures later { K.faults store.old ≤ K.faults store.new }
         ensures fault { result ≡ Err DataError.StoreFault → Rose (K.faults store.old) (K.faults store.new) }
     {

@@ -1,8 +1,9 @@
-use Rattle.std.proofs.Common.{◌∙◌, Some, subst, arith}
+use Rattle.std.proofs.Common.{◌∙◌, ◌+◌, Some, subst, arith}
 use Rattle.std.proofs.lemmas.Result.{err_from_is_err_and}
 use Rattle.bti_nodes.specs.Grammar.{IsBack}
 use Rattle.outside.specs.Files.{bytes_of}
 use Rattle.bti_reader.proofs.Asking.{join, last_err, last_hit, last_on, some_reads}
+use Rattle.bti_reader.proofs.Within.{last_within}
 use Rattle.bti_reader.proofs.paths.last_path.Goals as goal
 
 pub returns-in_err-turn-clause-found : goal.returns-in_err-turn-clause-found
@@ -32,3 +33,13 @@ nodes-preserved g c =
       reads = omega arith;
       later = omega arith;
     }
+
+pub returns-in_err-turn-clause-within : goal.returns-in_err-turn-clause-within
+returns-in_err-turn-clause-within g c =
+    last_within (g.K.Store.files c.args.store.now) c.args.file c.args.start c.nodes.position c.nodes.passed c.args.taken (g.K.Store.reads c.args.store.now + 1) (g.K.Store.reads c.ask.new.store + c.args.taken)
+    c.nodes.invariant.search (omega (arith, c.ask.ensures.reads, c.nodes.invariant.reads))
+
+pub returns-in-None-clause-within : goal.returns-in-None-clause-within
+returns-in-None-clause-within g c =
+    last_within (g.K.Store.files c.args.store.now) c.args.file c.args.start c.nodes.position c.nodes.passed c.args.taken (g.K.Store.reads c.args.store.now + 1) (g.K.Store.reads c.ask.new.store + c.args.taken)
+    c.nodes.invariant.search (omega (arith, c.ask.ensures.reads, c.nodes.invariant.reads))

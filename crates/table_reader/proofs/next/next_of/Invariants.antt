@@ -1,5 +1,8 @@
-use Rattle.std.proofs.Common.{◌≡◌, ◌≤◌, ◌-◌}
+use Rattle.std.proofs.Common.{◌≡◌, ◌≤◌, ◌-◌, length}
+use Rattle.std.specs.Prelude.{max}
 use Rattle.key_types.specs.Columns.{columns_of}
+use Rattle.table_reader.specs.Ranges.{IsOpen, inside_of}
+use Rattle.table_reader.specs.Window.{PaysReads}
 use Rattle.table_reader.proofs.Giving.{Came}
 use Rattle.table_reader.proofs.next.next_of.Given as goal
 
@@ -9,8 +12,12 @@ invariant-steps g l =
     let faults = g.K.Store.faults in
     record {
       came : Came (columns_of l.schema) l.file l.fn.walk (files l.fn.store) l.walk;
+      at : l.fn.walk.window.at ≤ l.walk.window.at;
+      inside : IsOpen (columns_of l.schema) (inside_of l.fn.walk) → IsOpen (columns_of l.schema) (inside_of l.walk);
       limit : l.walk.window.limit ≡ l.fn.walk.window.limit;
       same : files l.store ≡ files l.fn.store;
+      ahead : length l.walk.window.bytes ≤ max (length l.fn.walk.window.bytes) 86016;
+      paid : PaysReads l.fn.walk.window l.walk.window (g.K.Store.reads l.fn.store) (g.K.Store.reads l.store);
       later : faults l.fn.store ≤ faults l.store;
     }
 

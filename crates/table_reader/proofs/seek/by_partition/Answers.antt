@@ -1,4 +1,4 @@
-use Rattle.std.proofs.Common.{◌≡◌, ◌∙◌, IfSome, List, Ok, ap, arith, sym, subst, ℕ, ℤ, w64}
+use Rattle.std.proofs.Common.{◌≡◌, ◌∙◌, IfOk, IfSome, List, Ok, ap, arith, sym, subst, ℕ, ℤ, w64}
 use Rattle.std.proofs.lemmas.Int.{to_z-of_z}
 use Rattle.std.proofs.lemmas.Result.{err_from_is_err_and}
 use Rattle.std.specs.declared.cmp.Ordering.TheVariants.{Less, Equal, Greater}
@@ -6,8 +6,10 @@ use Rattle.index_files.specs.Reading.{partition_place}
 use Rattle.key_types.specs.Columns.{columns_of}
 use Rattle.key_types.specs.Table.{string_cmp}
 use Rattle.table_reader.specs.Gets.{LeadsTo, bytes_in}
+use Rattle.table_reader.specs.Seeking.{IsInOf}
 use Rattle.table_reader.specs.Reads.{Ends}
-use Rattle.table_reader.proofs.Seeks.{equal_reads, from_equal, from_greater, from_head_stops, from_less, greater_reads, less_reads}
+use Rattle.table_reader.proofs.SeekBounds.{equal_within}
+use Rattle.table_reader.proofs.Seeks.{equal_reads, from_equal, from_greater, from_head_stops, from_less, greater_reads, less_reads, same_strings}
 use Rattle.table_reader.proofs.seek.by_partition.Goals as goal
 
 pub returns-in_err-head-clause-begins : goal.returns-in_err-head-clause-begins
@@ -53,6 +55,12 @@ returns-in-Equal-clause-reads g c =
     c.in_ok-place.place c.in_ok-head.head c.within.result (g.K.Store.reads c.args.store.now) (g.K.Store.reads c.head_at.new.store) (g.K.Store.reads c.within.new.store) c.place_of.ensures.files c.head_at.ensures.files
     (omega (arith, c.place_of.ensures.reads, c.head_at.ensures.reads)) compared leads c.in_ok-head.ensures.head c.within.ensures.reads
 
+pub returns-in-Equal-clause-inside : goal.returns-in-Equal-clause-inside
+returns-in-Equal-clause-inside g c =
+    let compared : string_cmp c.in_ok-head.head.partition c.args.bound.now.partition ≡ Equal =
+    ap (λ (s : List ℕ). string_cmp s c.args.bound.now.partition) (sym c.as_slice.ensures) ∙ ap (λ (s : List ℕ). string_cmp c.as_slice.result.now s) (sym c.as_slice-string.ensures) ∙ sym c.compare_bytes.ensures ∙ c.in-Equal.is in
+    subst (λ (s : List ℕ). IfOk c.within.result (IsInOf s)) (same_strings c.in_ok-head.head.partition c.args.bound.now.partition compared) c.within.ensures.inside
+
 pub returns-in-Greater-clause-begins : goal.returns-in-Greater-clause-begins
 returns-in-Greater-clause-begins g c =
     let leads = subst (λ (z : ℤ). IfSome (g.K.Store.files c.args.store.now) (λ m. Ends (LeadsTo (bytes_in (columns_of c.args.schema.now) m c.args.table.generation) (partition_place z)) (Ok c.in_ok-place.place)))
@@ -66,3 +74,13 @@ pub returns-in-Greater-clause-reads : goal.returns-in-Greater-clause-reads
 returns-in-Greater-clause-reads g c =
     greater_reads (columns_of c.args.schema.now) c.args.table.generation c.args.table.root c.args.bound.now c.args.number (g.K.Store.files c.args.store.now)
     (g.K.Store.reads c.args.store.now) (g.K.Store.reads c.head_at.new.store) (omega (arith, c.place_of.ensures.reads, c.head_at.ensures.reads))
+
+pub returns-in-Equal-clause-within : goal.returns-in-Equal-clause-within
+returns-in-Equal-clause-within g c =
+    let leads = subst (λ (z : ℤ). IfSome (g.K.Store.files c.args.store.now) (λ m. Ends (LeadsTo (bytes_in (columns_of c.args.schema.now) m c.args.table.generation) (partition_place z)) (Ok c.in_ok-place.place)))
+    (to_z-of_z w64 c.args.number c.ranges.number) c.in_ok-place.ensures.place in
+    let compared : string_cmp c.in_ok-head.head.partition c.args.bound.now.partition ≡ Equal =
+    ap (λ (s : List ℕ). string_cmp s c.args.bound.now.partition) (sym c.as_slice.ensures) ∙ ap (λ (s : List ℕ). string_cmp c.as_slice.result.now s) (sym c.as_slice-string.ensures) ∙ sym c.compare_bytes.ensures ∙ c.in-Equal.is in
+    equal_within (columns_of c.args.schema.now) c.args.table.generation c.args.table.root c.args.bound.now (g.K.Store.files c.args.store.now) (g.K.Store.files c.place_of.new.store) (g.K.Store.files c.head_at.new.store)
+    c.in_ok-place.place c.in_ok-head.head c.args.number (g.K.Store.reads c.args.store.now) (g.K.Store.reads c.head_at.new.store) (g.K.Store.reads c.within.new.store) c.place_of.ensures.files c.head_at.ensures.files
+    (omega (arith, c.place_of.ensures.reads, c.head_at.ensures.reads)) compared leads c.in_ok-head.ensures.head c.within.ensures.within

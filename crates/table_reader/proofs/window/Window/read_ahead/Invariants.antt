@@ -1,4 +1,4 @@
-use Rattle.std.proofs.Common.{◌≡◌, ◌≤◌, ◌+◌, ◌*◌, ◌-◌, length}
+use Rattle.std.proofs.Common.{◌≡◌, ◌≤◌, ◌<◌, ◌+◌, ◌*◌, ◌-◌, false, length}
 use Rattle.std.specs.Prelude.{IfSome}
 use Rattle.outside.specs.Files.{bytes_of}
 use Rattle.table_reader.specs.Window.{Continues}
@@ -16,6 +16,8 @@ invariant-pages g l =
       same : files l.store ≡ files l.fn.store;
       kept : length l.fn.self.bytes ≤ length l.self.bytes;
       reads : 4096 * reads l.store + length l.fn.self.bytes ≤ 4096 * reads l.fn.store + length l.self.bytes;
+      few : length l.self.bytes < 81920;
+      open_still : l.self.whole ≡ false;
       later : faults l.fn.store ≤ faults l.store;
     }
 
