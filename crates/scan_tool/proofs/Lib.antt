@@ -1,0 +1,6 @@
+mod Pushes
+pub mod Turns
+mod Lined
+pub mod Named
+mod Scanned
+pub mod Ranged

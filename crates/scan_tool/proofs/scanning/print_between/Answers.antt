@@ -1,0 +1,29 @@
+use Rattle.std.proofs.Common.{◌∙◌, Err, Ok, ap, refl}
+use Rattle.key_types.specs.Columns.{columns_of}
+use Rattle.table_reader.specs.Opened.{Opened}
+use Rattle.scan_tool.proofs.Scanned.{begun_in, printed_from, unbegun, unloaded}
+use Rattle.scan_tool.proofs.scanning.print_between.Goals as goal
+
+pub returns-in-Err-clause-prints : goal.returns-in-Err-clause-prints
+returns-in-Err-clause-prints g c =
+    unloaded (columns_of c.args.table.now.schema) (g.K.Store.files c.args.store.now) c.args.table.now.generation c.args.from c.args.to (g.O.Sink.written c.args.out.now) (g.O.Sink.written c.args.out.now)
+    c.load_footer.new.self.footer c.in-Err.e c.from.result c.from.ensures (λ e. c.in-Err.ensures.whole (ap (λ x. Err x) e)) c.in-Err.ensures.footer refl
+
+pub returns-in-Ok-scan_between-clause-prints : goal.returns-in-Ok-scan_between-clause-prints
+returns-in-Ok-scan_between-clause-prints g c =
+    printed_from (columns_of c.args.table.now.schema) (g.K.Store.files c.args.store.now) c.args.table.now.generation c.args.from c.args.to (g.O.Sink.written c.args.out.now) (g.O.Sink.written c.print_scan.new.out)
+    c.in-Ok-scan_between.scan (g.K.Store.files c.scan_between.new.store) (columns_of c.scan_between.new.self.schema) c.scan_between.new.self.generation c.print_scan.result
+    (c.in-Ok-scan_between.ensures.files ∙ c.in-Ok.ensures.files)
+    (ap (λ (t : Opened). columns_of t.schema) c.in-Ok-scan_between.ensures.same ∙ ap (λ (t : Opened). columns_of t.schema) c.in-Ok.ensures.same)
+    (ap (λ (t : Opened). t.generation) c.in-Ok-scan_between.ensures.same ∙ ap (λ (t : Opened). t.generation) c.in-Ok.ensures.same)
+    (begun_in (g.K.Store.files c.args.store.now) (g.K.Store.files c.load_footer.new.store) c.args.table.now c.load_footer.new.self c.args.from c.args.to (Ok c.in-Ok-scan_between.scan) c.in-Ok.ensures.files c.in-Ok.ensures.same
+    c.in-Ok.ensures.footer c.in-Ok-scan_between.ensures.begins)
+    c.print_scan.ensures.prints
+
+pub returns-in-Err-scan_between-clause-prints : goal.returns-in-Err-scan_between-clause-prints
+returns-in-Err-scan_between-clause-prints g c =
+    unbegun (columns_of c.args.table.now.schema) (g.K.Store.files c.args.store.now) c.args.table.now.generation c.args.from c.args.to (g.O.Sink.written c.args.out.now) (g.O.Sink.written c.args.out.now)
+    c.in-Err-scan_between.e c.from-in-Err-scan_between.result c.from-in-Err-scan_between.ensures (λ e. c.in-Err-scan_between.ensures.whole (ap (λ x. Err x) e))
+    (begun_in (g.K.Store.files c.args.store.now) (g.K.Store.files c.load_footer.new.store) c.args.table.now c.load_footer.new.self c.args.from c.args.to (Err c.in-Err-scan_between.e) c.in-Ok.ensures.files c.in-Ok.ensures.same
+    c.in-Ok.ensures.footer c.in-Err-scan_between.ensures.begins)
+    refl

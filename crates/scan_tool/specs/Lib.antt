@@ -1,0 +1,6 @@
+pub mod Bounds
+pub mod Errors
+pub mod Given
+pub mod Printing
+pub mod Steps
+pub mod Laws
