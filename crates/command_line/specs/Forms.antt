@@ -12,6 +12,10 @@ option name = record (new_rule name) { long = Some name; action = Some Set }
 abbrev pub required_option : Text → Rule
 required_option name = record (option name) { required = true }
 
+-- `VALUE` in a word of its own, exactly once
+abbrev pub word : Text → Rule
+word name = record (new_rule name) { action = Some Set; required = true }
+
 -- `--name`, at most once
 abbrev pub flag : Text → Rule
 flag name = record (new_rule name) { long = Some name; action = Some SetTrue }

@@ -37,6 +37,11 @@ abbrev pub number_in : ℕ → ℕ → ℕ → Option Text → Result ℕ WordsE
 number_in default least most None = Ok default
 number_in default least most (Some text) = within least most (number_of text)
 
+-- the number of an option that has to be there, within its limits
+abbrev pub needed_number : ℕ → ℕ → Option Text → Result ℕ WordsError
+needed_number least most None = Err Usage
+needed_number least most (Some text) = within least most (number_of text)
+
 -- how many cells a shard has
 abbrev pub cells_in : Option Text → Result ℕ WordsError
 cells_in = number_in 262144 1024 4194304
@@ -44,3 +49,15 @@ cells_in = number_in 262144 1024 4194304
 -- how many readers there are
 abbrev pub readers_in : Option Text → Result ℕ WordsError
 readers_in = number_in 2 1 8
+
+-- how many rows a script has, and how many of its lines read one: at most as many
+abbrev pub rows_with : Result ℕ WordsError → Option Text → Result (ℕ × ℕ) WordsError
+rows_with (Err e) gets = Err Usage
+rows_with (Ok count) gets = with_gets count (number_in 0 0 count gets)
+  where
+    with_gets : ℕ → Result ℕ WordsError → Result (ℕ × ℕ) WordsError
+    with_gets count (Err e) = Err Usage
+    with_gets count (Ok gets) = Ok (count, gets)
+
+abbrev pub rows_and_gets : Option Text → Option Text → Result (ℕ × ℕ) WordsError
+rows_and_gets count gets = rows_with (needed_number 1 500000 count) gets

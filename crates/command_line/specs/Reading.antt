@@ -1,5 +1,5 @@
 -- Which words are taken, and what they say.
-use Rattle.std.specs.Prelude.{Bool, true, false, List, [], ◌∷◌, codes}
+use Rattle.std.specs.Prelude.{◌-◌, ◌^◌, Bool, true, false, List, [], ◌∷◌, codes}
 use Rattle.std.specs.Prelude.{Option, Some, None, Result, Ok, Err, if◌then◌else◌}
 use Rattle.std.specs.List.{list_any}
 use Rattle.std.specs.Str.{bytes_eq}
@@ -8,8 +8,8 @@ use Rattle.clap.specs.Simple.{subcommand_of}
 use Rattle.clap.specs.Kinds.{Kinds}
 use Rattle.clap.specs.Faults.{fault_of}
 use Rattle.command_line.specs.Grammar.{tool}
-use Rattle.command_line.specs.Numbers.{cells_in, readers_in}
-use Rattle.command_line.specs.Said.{Said, Way, list, load, scan, key, encode, decode}
+use Rattle.command_line.specs.Numbers.{cells_in, needed_number, readers_in, rows_and_gets}
+use Rattle.command_line.specs.Said.{Said, Way, list, load, get, scan, key, gen, encode, decode}
 use Rattle.command_line.specs.declared.command.WordsError.{WordsError}
 use Rattle.command_line.specs.declared.command.WordsError.TheVariants.{Usage}
 
@@ -61,6 +61,14 @@ load_in rows = reads (needed_text (first_of (codes "schema") rows)) (λ schema.
     reads (readers_in (first_of (codes "readers") rows)) (λ readers.
     Ok (load schema (text_or_none (first_of (codes "bounds") rows)) cells readers))))
 
+-- `get` with its value
+abbrev pub get_in : List Row → Result Said WordsError
+get_in rows = reads (needed_text (first_of (codes "key") rows)) (λ key. Ok (get key))
+
+-- `scan` with its values
+abbrev pub scan_in : List Row → Result Said WordsError
+scan_in rows = Ok (scan (first_of (codes "from") rows) (first_of (codes "to") rows))
+
 -- a flag is there: `clap` says so by the text true
 abbrev pub is_set : Option Text → Bool
 is_set None = false
@@ -78,12 +86,22 @@ key_in rows = reads (needed_text (first_of (codes "schema") rows)) (λ schema.
     reads (one_way (first_of (codes "encode") rows) (first_of (codes "decode") rows)) (λ way.
     Ok (key schema (is_set (first_of (codes "clustering") rows)) way)))
 
+-- `gen` with its values; the seed is any number of 64 bits
+abbrev pub gen_in : List Row → Result Said WordsError
+gen_in rows = reads (needed_number 0 (2 ^ 64 - 1) (first_of (codes "seed") rows)) (λ seed.
+    reads (rows_and_gets (first_of (codes "count") rows) (first_of (codes "gets") rows)) (λ numbers.
+    reads (cells_in (first_of (codes "cells") rows)) (λ cells.
+    reads (readers_in (first_of (codes "readers") rows)) (λ readers.
+    Ok (gen seed numbers.0 numbers.1 (is_set (first_of (codes "print") rows)) cells readers)))))
+
 -- the command of this name, with the values that were found for it
 abbrev pub said_by : Text → List Row → Result Said WordsError
 said_by name rows = if bytes_eq name (codes "list") then list_in rows
     else (if bytes_eq name (codes "load") then load_in rows
-    else (if bytes_eq name (codes "scan") then Ok scan
-    else (if bytes_eq name (codes "key") then key_in rows else Err Usage)))
+    else (if bytes_eq name (codes "get") then get_in rows
+    else (if bytes_eq name (codes "scan") then scan_in rows
+    else (if bytes_eq name (codes "key") then key_in rows
+    else (if bytes_eq name (codes "gen") then gen_in rows else Err Usage)))))
 
 -- what the words that were found say
 abbrev pub said_in : Result (Option (Text × List Row)) WordsError → Result Said WordsError

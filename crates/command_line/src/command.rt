@@ -24,6 +24,39 @@ pub struct LoadArguments {
     pub readers: u32,
 }
 
+/// The values of `get`.
+#[derive(Debug, Drop)]
+pub struct GetArguments {
+    /// The key, as its text.
+    pub key: String,
+}
+
+/// The values of `scan`.
+#[derive(Debug, Drop)]
+pub struct ScanArguments {
+    /// The bound from which the rows go, as its text.
+    pub from: Option<String>,
+    /// The bound up to which they go, as its text.
+    pub to: Option<String>,
+}
+
+/// The values of `gen`.
+#[derive(Debug, Drop)]
+pub struct GenArguments {
+    /// The number from which all values are made.
+    pub seed: u64,
+    /// How many rows there are, from 1 to 500,000.
+    pub count: u32,
+    /// How many lines read a row, at most as many as there are rows.
+    pub gets: u32,
+    /// Whether the script is printed, and not loaded.
+    pub print: bool,
+    /// How many cells each shard has, from 1,024 to 4,194,304.
+    pub cells: u32,
+    /// How many readers there are, from 1 to 8.
+    pub readers: u32,
+}
+
 /// What `key` is to do.
 #[derive(Debug, Drop)]
 pub enum KeyWay {
@@ -51,8 +84,12 @@ pub enum Command {
     List(ListArguments),
     /// `load --schema S [--bounds B] [--cells n] [--readers n]`
     Load(LoadArguments),
-    /// `scan`
-    Scan,
+    /// `get K`
+    Get(GetArguments),
+    /// `scan [--from B] [--to B]`
+    Scan(ScanArguments),
+    /// `gen --seed s --count n [--gets g] --print` or `.. [--cells n] [--readers n]`
+    Gen(GenArguments),
     /// `key --schema S [--clustering] --encode L` or `.. --decode H`
     Key(KeyArguments),
 }

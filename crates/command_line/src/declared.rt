@@ -26,6 +26,14 @@ fn required_option<'a>(alloc: Global, name: &'a str) -> Arg<'a>
         .required(true)
 }
 
+/// An argument in a word of its own, which has to be there.
+fn word<'a>(alloc: Global, name: &'a str) -> Arg<'a>
+    ensures rule { rule_of result ≡ form.word name.entry.now }
+    ensures local { result.global ≡ false }
+{
+    Arg::new(alloc, name).action(ArgAction::Set).required(true)
+}
+
 fn flag<'a>(alloc: Global, name: &'a str) -> Arg<'a>
     ensures rule { rule_of result ≡ form.flag name.entry.now }
     ensures local { result.global ≡ false }
@@ -102,11 +110,27 @@ fn load<'a>(alloc: Global) -> Result<Command<'a>, AllocError>
     with_options(alloc, command, &["bounds", "cells", "readers"])
 }
 
-fn scan<'a>(alloc: Global) -> Command<'a>
-    ensures shape { shape_of result ≡ grammar.scan }
-    ensures local { (fields_of result).has_globals ≡ false }
+fn get<'a>(alloc: Global) -> Result<Command<'a>, AllocError>
+    ensures shape { IfOk result (λ c. shape_of c ≡ grammar.get) }
+    ensures local { IfOk result (λ c. (fields_of c).has_globals ≡ false) }
 {
-    Command::new(alloc, "scan")
+    with(Command::new(alloc, "get"), word(alloc, "key"))
+}
+
+fn scan<'a>(alloc: Global) -> Result<Command<'a>, AllocError>
+    ensures shape { IfOk result (λ c. shape_of c ≡ grammar.scan) }
+    ensures local { IfOk result (λ c. (fields_of c).has_globals ≡ false) }
+{
+    with_options(alloc, Command::new(alloc, "scan"), &["from", "to"])
+}
+
+fn generate<'a>(alloc: Global) -> Result<Command<'a>, AllocError>
+    ensures shape { IfOk result (λ c. shape_of c ≡ grammar.gen) }
+    ensures local { IfOk result (λ c. (fields_of c).has_globals ≡ false) }
+{
+    let command = with_required(alloc, Command::new(alloc, "gen"), &["seed", "count"])?;
+    let command = with_options(alloc, command, &["gets", "cells", "readers"])?;
+    with(command, flag(alloc, "print"))
 }
 
 fn key<'a>(alloc: Global) -> Result<Command<'a>, AllocError>
@@ -137,11 +161,20 @@ fn with_scripts<'a>(alloc: Global, tool: Command<'a>) -> Result<Command<'a>, All
     with_command(tool, load(alloc)?)
 }
 
+/// The command line with the commands that read tables, after its others.
+fn with_tables<'a>(alloc: Global, tool: Command<'a>) -> Result<Command<'a>, AllocError>
+    ensures { IfOk result (λ c. app_of c ≡ form.with_commands (app_of tool.entry) (grammar.get ∷ grammar.scan ∷ [])) }
+{
+    let tool = with_command(tool, get(alloc)?)?;
+    with_command(tool, scan(alloc)?)
+}
+
 /// The command line, with its commands.
 pub fn tool<'a>(alloc: Global) -> Result<Command<'a>, AllocError>
     ensures { IfOk result (λ c. app_of c ≡ grammar.tool) }
 {
     let tool = with_scripts(alloc, bare(alloc))?;
-    let tool = with_command(tool, scan(alloc))?;
-    with_command(tool, key(alloc)?)
+    let tool = with_tables(alloc, tool)?;
+    let tool = with_command(tool, key(alloc)?)?;
+    with_command(tool, generate(alloc)?)
 }

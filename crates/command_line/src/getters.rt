@@ -2,14 +2,17 @@
 ghost use Rattle.std.specs.Prelude.{◌≡◌, ◌≤◌, codes, option_map, IfOk, Ok};
 ghost use Rattle.clap.specs.Words.{found_of, rows_of, first_of, subcommand_rows_of};
 ghost use Rattle.std.specs.String.{string_bytes};
-ghost use Rattle.command_line.specs.Numbers.{cells_in, number_in, readers_in};
+ghost use Rattle.command_line.specs.Numbers.{cells_in, needed_number, number_in, readers_in, rows_and_gets};
 ghost use Rattle.command_line.specs.Reading.{is_set, needed_text, one_way, text_or_none};
-ghost use Rattle.command_line.specs.Said.{AnswersCommand, AreCells, way_of};
+ghost use Rattle.command_line.specs.Said.{AnswersCommand, AreCells, AreReaders, AreRows, way_of};
 
 use crate::command::{KeyWay, WordsError};
 use crate::numbers::number_of;
 use clap::ArgMatches;
 use std::alloc::Global;
+
+/// How many rows `gen` makes at most.
+const MOST_ROWS: u32 = 500_000;
 
 /// The command that was named, and what was found for it.
 pub fn chosen<'m, 'a>(matches: &'m ArgMatches<'a>) -> Option<(&'a str, &'m ArgMatches<'a>)>
@@ -91,10 +94,40 @@ pub fn cells_in(matches: &ArgMatches) -> Result<u32, WordsError>
 
 /// How many readers there are.
 pub fn readers_in(matches: &ArgMatches) -> Result<u32, WordsError>
-    ensures limits { IfOk result (λ n. (1 ≤ n) × (n ≤ 8)) }
+    ensures limits { IfOk result AreReaders }
     ensures number { AnswersCommand (λ n. n) result (readers_in (first_of (codes "readers") (rows_of (found_of matches.now)))) }
 {
     number_in(matches, "readers", 2, 1, 8)
+}
+
+/// The number of a required option within its limits.
+pub fn needed_number(
+    matches: &ArgMatches,
+    name: &str,
+    least: u64,
+    most: u64,
+) -> Result<u64, WordsError>
+    ensures limits { IfOk result (λ n. (least ≤ n) × (n ≤ most)) }
+    ensures number { AnswersCommand (λ n. n) result (needed_number least most (first_of name.now (rows_of (found_of matches.now)))) }
+{
+    let Some(text) = given(matches, name) else {
+        return Err(WordsError::Usage);
+    };
+    match number_of(text) {
+        Some(number) if least <= number && number <= most => Ok(number),
+        _ => Err(WordsError::Usage),
+    }
+}
+
+/// How many rows a script has, and how many of its lines read one.
+pub fn rows_and_gets(matches: &ArgMatches) -> Result<(u32, u32), WordsError>
+    ensures limits { IfOk result (λ n. AreRows n.0 n.1) }
+    ensures numbers { let rows = rows_of (found_of matches.now) in
+        AnswersCommand (λ n. n) result (rows_and_gets (first_of (codes "count") rows) (first_of (codes "gets") rows)) }
+{
+    let count = needed_number(matches, "count", 1, u64::from(MOST_ROWS))? as u32;
+    let gets = number_in(matches, "gets", 0, 0, count)?;
+    Ok((count, gets))
 }
 
 /// Whether the flag is there.

@@ -8,7 +8,10 @@ mod laws;
 mod numbers;
 mod reading;
 
-pub use command::{Command, KeyArguments, KeyWay, ListArguments, LoadArguments, WordsError};
+pub use command::{
+    Command, GenArguments, GetArguments, KeyArguments, KeyWay, ListArguments, LoadArguments,
+    ScanArguments, WordsError,
+};
 pub use laws::{law_key, law_list};
 pub use reading::read_words;
 

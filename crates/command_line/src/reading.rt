@@ -3,12 +3,18 @@ ghost use Rattle.std.specs.Prelude.{◌≡◌, ◌↔◌, map, IfOk};
 ghost use Rattle.std.specs.List.{list_any};
 ghost use Rattle.std.specs.String.{string_bytes};
 ghost use Rattle.clap.specs.Words.{found_of, kind_of, rows_of, subcommand_rows_of};
-ghost use Rattle.command_line.specs.Reading.{command_of, found_in, is_refused, key_in, list_in, load_in, said_by};
+ghost use Rattle.command_line.specs.Reading.{command_of, found_in, gen_in, get_in, is_refused, key_in, list_in, load_in, said_by, scan_in};
 ghost use Rattle.command_line.specs.Said.{AnswersCommand, IsLimited, said_of};
 
-use crate::command::{Command, KeyArguments, ListArguments, LoadArguments, WordsError};
+use crate::command::{
+    Command, GenArguments, GetArguments, KeyArguments, ListArguments, LoadArguments, ScanArguments,
+    WordsError,
+};
 use crate::declared::tool;
-use crate::getters::{cells_in, chosen, is_set, needed_text, one_way, readers_in, text_or_none};
+use crate::getters::{
+    cells_in, chosen, is_set, needed_number, needed_text, one_way, readers_in, rows_and_gets,
+    some_text, text_or_none,
+};
 use clap::error::ErrorKind;
 use clap::{ArgMatches, Error};
 use std::alloc::Global;
@@ -91,6 +97,42 @@ fn key(alloc: Global, matches: &ArgMatches) -> Result<Command, WordsError>
     }))
 }
 
+fn get(alloc: Global, matches: &ArgMatches) -> Result<Command, WordsError>
+    ensures limits { IfOk result IsLimited }
+    ensures said { AnswersCommand said_of result (get_in (rows_of (found_of matches.now))) }
+{
+    let key = needed_text(alloc, matches, "key")?;
+    Ok(Command::Get(GetArguments { key }))
+}
+
+fn scan(alloc: Global, matches: &ArgMatches) -> Result<Command, WordsError>
+    ensures limits { IfOk result IsLimited }
+    ensures said { AnswersCommand said_of result (scan_in (rows_of (found_of matches.now))) }
+{
+    let from = some_text(alloc, matches, "from")?;
+    let to = some_text(alloc, matches, "to")?;
+    Ok(Command::Scan(ScanArguments { from, to }))
+}
+
+fn generate(matches: &ArgMatches) -> Result<Command, WordsError>
+    ensures limits { IfOk result IsLimited }
+    ensures said { AnswersCommand said_of result (gen_in (rows_of (found_of matches.now))) }
+{
+    let seed = needed_number(matches, "seed", 0, u64::MAX)?;
+    let (count, gets) = rows_and_gets(matches)?;
+    let cells = cells_in(matches)?;
+    let readers = readers_in(matches)?;
+    let print = is_set(matches, "print");
+    Ok(Command::Gen(GenArguments {
+        seed,
+        count,
+        gets,
+        print,
+        cells,
+        readers,
+    }))
+}
+
 fn command(alloc: Global, name: &str, matches: &ArgMatches) -> Result<Command, WordsError>
     ensures limits { IfOk result IsLimited }
     ensures said { AnswersCommand said_of result (said_by name.now (rows_of (found_of matches.now))) }
@@ -98,8 +140,10 @@ fn command(alloc: Global, name: &str, matches: &ArgMatches) -> Result<Command, W
     match name {
         "list" => list(alloc, matches),
         "load" => load(alloc, matches),
-        "scan" => Ok(Command::Scan),
+        "get" => get(alloc, matches),
+        "scan" => scan(alloc, matches),
         "key" => key(alloc, matches),
+        "gen" => generate(matches),
         _ => Err(WordsError::Usage),
     }
 }

@@ -1,5 +1,8 @@
 //! Vectors of words.
-use crate::{Command, KeyArguments, KeyWay, ListArguments, LoadArguments, WordsError, read_words};
+use crate::{
+    Command, GenArguments, KeyArguments, KeyWay, ListArguments, LoadArguments, ScanArguments,
+    WordsError, read_words,
+};
 use std::alloc::{AllocError, Global};
 
 fn words_of(alloc: Global, words: &[&str]) -> Result<Vec<String>, AllocError> {
@@ -23,6 +26,34 @@ fn key_said(alloc: Global, arguments: KeyArguments) -> Result<String, AllocError
     }
 }
 
+/// The text of an option, or a dash.
+fn text_or_dash(alloc: Global, text: Option<String>) -> Result<String, AllocError> {
+    match text {
+        Some(text) => Ok(text),
+        None => String::from_str(alloc, "-"),
+    }
+}
+
+/// The bounds of a range.
+fn range_said(alloc: Global, arguments: ScanArguments) -> Result<String, AllocError> {
+    let from = text_or_dash(alloc, arguments.from)?;
+    let to = text_or_dash(alloc, arguments.to)?;
+    format!(in alloc; "{from} {to}")
+}
+
+/// The numbers of a generated script, and whether it is printed.
+fn gen_said(alloc: Global, arguments: GenArguments) -> Result<String, AllocError> {
+    let GenArguments {
+        seed,
+        count,
+        gets,
+        print,
+        cells,
+        readers,
+    } = arguments;
+    format!(in alloc; "{seed} {count} {gets} {print} {cells} {readers}")
+}
+
 /// The texts and numbers of the command, or `usage`.
 fn said_by(alloc: Global, words: &[&str]) -> Result<String, AllocError> {
     let texts = words_of(alloc, words)?;
@@ -40,8 +71,10 @@ fn said_by(alloc: Global, words: &[&str]) -> Result<String, AllocError> {
             } = arguments;
             format!(in alloc; "{schema} {bounds} {cells} {readers}")
         }
-        Ok(Command::Scan) => String::from_str(alloc, "scan"),
+        Ok(Command::Get(arguments)) => Ok(arguments.key),
+        Ok(Command::Scan(arguments)) => range_said(alloc, arguments),
         Ok(Command::Key(arguments)) => key_said(alloc, arguments),
+        Ok(Command::Gen(arguments)) => gen_said(alloc, arguments),
         Err(WordsError::Usage) => String::from_str(alloc, "usage"),
         Err(WordsError::NoMemory) => Err(AllocError),
     }
@@ -50,7 +83,7 @@ fn said_by(alloc: Global, words: &[&str]) -> Result<String, AllocError> {
 #[test]
 fn takes_the_commands(rt: HostRuntime) -> Result<(), AllocError> {
     let alloc = rt.alloc();
-    let table: [(&[&str], &str); 18] = [
+    let table: [(&[&str], &str); 25] = [
         (
             &["list", "--schema", "(int; ; text)"],
             "(int; ; text) 262144",
@@ -72,7 +105,30 @@ fn takes_the_commands(rt: HostRuntime) -> Result<(), AllocError> {
             &["load", "--schema", "s", "--readers", "8", "--cells", "1024"],
             "s  1024 8",
         ),
-        (&["scan"], "scan"),
+        (&["get", "(1) (2)"], "(1) (2)"),
+        (&["get", ""], ""),
+        (&["scan"], "- -"),
+        (&["scan", "--to", "(2)", "--from=(1) (3)"], "(1) (3) (2)"),
+        (&["scan", "--from=--x"], "--x -"),
+        (
+            &["gen", "--seed", "0", "--count=1", "--print"],
+            "0 1 0 true 262144 2",
+        ),
+        (
+            &["gen", "--print", "--gets", "1", "--count=01", "--seed=7"],
+            "7 1 1 true 262144 2",
+        ),
+        (
+            &[
+                "gen",
+                "--seed=18446744073709551615",
+                "--count=500000",
+                "--gets=500000",
+                "--cells=1024",
+                "--readers=8",
+            ],
+            "18446744073709551615 500000 500000 false 1024 8",
+        ),
         (
             &["key", "--schema", "s", "--encode", "(1)"],
             "encode (1) s false",
@@ -98,7 +154,7 @@ fn takes_the_commands(rt: HostRuntime) -> Result<(), AllocError> {
 #[test]
 fn refuses_other_words(rt: HostRuntime) -> Result<(), AllocError> {
     let alloc = rt.alloc();
-    let table: [&[&str]; 45] = [
+    let table: [&[&str]; 60] = [
         &[],
         &[""],
         &["list"],
@@ -128,6 +184,21 @@ fn refuses_other_words(rt: HostRuntime) -> Result<(), AllocError> {
         &["load", "--schema=s", "--bounds=(1)", "--bounds=(1)"],
         &["scan", "--schema", "s"],
         &["scan", "list"],
+        &["scan", "--from", "(1)", "--from", "(1)"],
+        &["scan", "--to"],
+        &["get"],
+        &["get", "(1)", "(2)"],
+        &["get", "-1"],
+        &["get", "--key", "(1)"],
+        &["gen", "--seed", "1", "--print"],
+        &["gen", "--count", "1"],
+        &["gen", "--seed=0", "--count=0", "--print"],
+        &["gen", "--seed=0", "--count=500001"],
+        &["gen", "--seed=0", "--count=2", "--gets=3"],
+        &["gen", "--seed=18446744073709551616", "--count=2"],
+        &["gen", "--seed=-1", "--count=2"],
+        &["gen", "--seed=1", "--count=2", "--print=true"],
+        &["gen", "--seed=1", "--count=2", "--print", "--readers=9"],
         &["key"],
         &["key", "--schema", "s"],
         &["key", "--encode", "(1)"],

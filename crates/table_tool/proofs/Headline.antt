@@ -1,13 +1,12 @@
 -- A `load`, and a `scan` over the files that it left.
-use Rattle.std.proofs.Common.{◌≡◌, ◌+◌, ◌++◌, ℕ, Bool, List, [], ◌∷◌, Option, Some, None, Result, Ok, Err, refl, sym, ◌∙◌, ap, subst}
+use Rattle.std.proofs.Common.{◌≡◌, ◌+◌, ◌++◌, ℕ, Bool, true, false, List, [], ◌∷◌, Option, Some, None, Result, Ok, Err, refl, sym, ◌∙◌, ap, subst}
 use Rattle.std.proofs.lemmas.List.{append-nil}
-use Rattle.std.specs.Prelude.{IfSome, if◌then◌else◌}
-use Rattle.std.specs.FinMap as map
+use Rattle.std.specs.Prelude.{IfSome, cond, if◌then◌else◌, ⊤}
+use Rattle.std.specs.List.{filter}
 use Rattle.outside.specs.Files.{Files}
 use Rattle.outside.specs.Told.{WhereTold}
 use Rattle.key_types.specs.Columns.{Columns}
 use Rattle.byte_comparable.specs.Encoding.{key_string}
-use Rattle.key_types.specs.Table.{Table}
 use Rattle.script_text.proofs.Meaning.{meaning}
 use Rattle.script_text.specs.Lines.{lines_of}
 use Rattle.script_text.specs.Meaning.{AreAcceptedLines, IsScript}
@@ -29,15 +28,24 @@ use Rattle.table_tool.specs.Outside.{Outside, SinkFails, StoreFails}
 use Rattle.key_types.specs.Table.{Entry}
 use Rattle.key_types.specs.Kinds.{Vals}
 use Rattle.byte_comparable.specs.Order.{Key, KeyFits, within_string}
-use Rattle.script_text.specs.Laws.{AreOfKeys}
+use Rattle.script_text.specs.Laws.{AreOfKeys, HasKey}
 use Rattle.script_text.proofs.Ascending.{entries_ascend}
 use Rattle.flush_walk.specs.Entries.{is_row, row_count}
-use Rattle.table_tool.specs.Printed.{AreKeyLines, IsTableText, entry_line, entry_lines, key_line, rows_of_key, rows_text}
-use Rattle.table_tool.proofs.Told.{told_so}
-use Rattle.table_tool.proofs.PrintedLemmas.{is_row_entry, is_static_entry, row_named, static_named}
+use Rattle.row_text.specs.Printed.{AreKeyLines, IsTableText, entry_line, entry_lines, key_line, rows_of_key, rows_text}
+use Rattle.table_tool.proofs.Told.{told_so, told_then}
+use Rattle.row_text.proofs.PrintedLemmas.{is_row_entry, is_static_entry, row_named, static_named}
 use Rattle.flush_walk.proofs.PartsLemmas.{some_key}
 use Rattle.table_tool.specs.Rows.{rows_of, table_put}
-use Rattle.table_tool.specs.Scanning.{ScanEnds, ScanPrints}
+use Rattle.byte_comparable.specs.declared.strings.Side.{Side}
+use Rattle.byte_comparable.specs.declared.strings.Side.TheVariants.{Before, After}
+use Rattle.table_reader.specs.declared.seek.BoundString.{BoundString}
+use Rattle.table_reader.specs.Left.{is_in_range, range_of}
+use Rattle.scan_tool.specs.declared.error.ScanError.{ScanError}
+use Rattle.scan_tool.specs.declared.error.ScanError.TheVariants as scan_error
+use Rattle.scan_tool.specs.Bounds.{NamesEnd}
+use Rattle.scan_tool.specs.Laws.{PrintsOf}
+use Rattle.scan_tool.proofs.Named.{one_bound}
+use Rattle.table_tool.specs.Scanning.{EndsAs, ScanEnds, ScansNamed, ScansOfMap}
 
 -- the script that is taken
 accepted : (r : Result Script ScriptError) (script : Script) → loading_of r ≡ Ok script → r ≡ Ok script
@@ -47,7 +55,7 @@ accepted (Err script_error.TooLarge) script e = cc
 accepted (Err script_error.NoMemory) script e = cc
 
 -- a script that `script_of` computes is that of its lines
-said : (columns : Columns) (readers : ℕ) (bytes : List ℕ) (script : Script) → script_of columns readers bytes ≡ Ok script
+pub said : (columns : Columns) (readers : ℕ) (bytes : List ℕ) (script : Script) → script_of columns readers bytes ≡ Ok script
     → (lines : List Line) × AreAcceptedLines columns readers 1 0 (lines_of bytes) lines × (script.batches ≡ batches_of lines)
 said columns readers bytes script is =
     let meant : IsScript columns readers bytes (Ok script) = subst (IsScript columns readers bytes) is (meaning.computed columns readers bytes) in
@@ -79,49 +87,90 @@ module _ (columns : Columns) where
       rw e
       (key, entry_lines columns rest, row_count columns rest, fits, is, ap (λ l. l ++ entry_lines columns rest) line, ap (λ n. n + row_count columns rest) count, all_named keys rest more)
 
-  table_text : (readers : ℕ) (bytes : List ℕ) (script : Script) → script_of columns readers bytes ≡ Ok script
-      → IsTableText columns (rows_of (puts_of script.batches)) (rows_text columns (rows_of (puts_of script.batches)))
-  table_text readers bytes script is =
-      let rows = rows_of (puts_of script.batches) in
-      let keyed = entries_ascend columns readers bytes script is in
-      (entry_lines columns rows, row_count columns rows, all_named keyed.0 rows keyed.1, refl)
+  -- the entries that a test keeps are those of some of the keys
+  module _ (p : Entry → Bool) where
+    abbrev Kept : List Entry → Type 0
+    Kept entries = (kept : List Key) × AreOfKeys columns kept (filter p entries)
 
-module _ (columns : Columns) (files : Files) (puts : List Put) (before after : Outside) (result : Status) (told : before.files ≡ Some files) (ends : ScanEnds before after result)
+    kept_by : (key : Key) (entry : Entry) (rest : List Entry) (t : Bool) → p entry ≡ t → HasKey columns key entry.0 → Kept rest → Kept (entry ∷ rest)
+    kept_by key entry rest true is has others =
+        (key ∷ others.0, (entry, filter p rest, ap (λ (t : Bool). cond t (entry ∷ filter p rest) (filter p rest)) is, has, others.1))
+    kept_by key entry rest false is has others =
+        (others.0, subst (AreOfKeys columns others.0) (sym (ap (λ (t : Bool). cond t (entry ∷ filter p rest) (filter p rest)) is)) others.1)
+
+    kept_named : (keys : List Key) (entries : List Entry) → AreOfKeys columns keys entries → Kept entries
+    kept_named [] entries e = ([], ap (filter p) e)
+    kept_named (key ∷ keys) entries (entry, rest, e, has, more) = subst Kept (sym e) (kept_by key entry rest (p entry) refl has (kept_named keys rest more))
+
+  table_text : (readers : ℕ) (bytes : List ℕ) (script : Script) → script_of columns readers bytes ≡ Ok script → (lower upper : Option BoundString)
+      → let rows = range_of lower upper (rows_of (puts_of script.batches)) in IsTableText columns rows (rows_text columns rows)
+  table_text readers bytes script is lower upper =
+      let rows = range_of lower upper (rows_of (puts_of script.batches)) in
+      let keyed = entries_ascend columns readers bytes script is in
+      let kept = kept_named (is_in_range lower upper) keyed.0 (rows_of (puts_of script.batches)) keyed.1 in
+      (entry_lines columns rows, row_count columns rows, all_named kept.0 rows kept.1, refl)
+
+-- ---- the ends of a range that texts name
+
+same_end : (columns : Columns) (side : Side) (text : Option (List ℕ)) (a b : Option BoundString) → NamesEnd columns side text a → NamesEnd columns side text b → a ≡ b
+same_end columns side None a b is also = is ∙ sym also
+same_end columns side (Some text) None b is also = absurd is
+same_end columns side (Some text) (Some a) None is also = absurd also
+same_end columns side (Some text) (Some a) (Some b) is also = ap Some (one_bound columns side text a b is also)
+
+-- ---- what a scan over the files prints
+
+module _ (columns : Columns) (files : Files) (puts : List Put) (from to : Option (List ℕ)) (lower upper : Option BoundString)
+    (first : NamesEnd columns Before from lower) (second : NamesEnd columns After to upper)
+    (before after : Outside) (result : Status) (told : before.files ≡ Some files) (ends : ScanEnds from to before after result)
     (stand : StandFor files first_generation columns (table_put puts)) where
-  prints : WhereTold before.written after.written (ScanPrints columns result (rows_of puts) before.sink_faults after.sink_faults)
-  prints =
-      subst (λ (o : Option Files). IfSome o (λ m. (cs : Columns) (table : Table) → StandFor m first_generation cs table
-      → WhereTold before.written after.written (ScanPrints cs result (map.entries table) before.sink_faults after.sink_faults))) told ends.stand columns (table_put puts) stand
+  abbrev rows : List Entry
+  rows = range_of lower upper (rows_of puts)
+
+  range_printed : (printed : Result ⊤ ScanError) (between : Option (List ℕ)) → PrintsOf columns (table_put puts) from to before.written between printed
+      → EndsAs printed between before after status.Ok → WhereTold before.written after.written (λ old new. new ≡ old ++ rows_text columns rows)
+  range_printed (Ok x) between (lower', upper', first', second', told') ended =
+      let same = ap (λ (b : Option BoundString). range_of b upper' (rows_of puts)) (same_end columns Before from lower' lower first' first)
+      ∙ ap (λ (b : Option BoundString). range_of lower b (rows_of puts)) (same_end columns After to upper' upper second' second) in
+      told_then before.written between after.written _ _ _
+      (λ x y z is e. e ∙ is ∙ ap (λ (es : List Entry). x ++ rows_text columns es) same) told' ended.behind
+  range_printed (Err scan_error.Usage) between is ended = absurd (let e = ended.ends in cc)
+  range_printed (Err scan_error.SinkFault) between is ended = absurd (let e = ended.ends in cc)
+  range_printed (Err scan_error.StoreFault) between is ended = absurd (let e = ended.ends in cc)
+  range_printed (Err (scan_error.Damaged damage)) between is ended = absurd is
+  range_printed (Err scan_error.Unfinished) between is ended = absurd is
+  range_printed (Err scan_error.NoMemory) between is ended = absurd (let e = ended.ends in cc)
 
   well : ¬ (StoreFails before after) → ¬ (SinkFails before after) → IsOrNoMemory status.Ok result
   well =
-      subst (λ (o : Option Files). IfSome o (λ m. (cs : Columns) (table : Table) → StandFor m first_generation cs table
-      → ¬ (StoreFails before after) → ¬ (SinkFails before after) → IsOrNoMemory status.Ok result)) told ends.complete columns (table_put puts) stand
+      subst (λ (o : Option Files). IfSome o (λ m. ScansNamed from to m before after result)) told ends.complete columns (table_put puts) stand (lower, upper, first, second)
 
-  all_printed : result ≡ status.Ok → WhereTold before.written after.written (λ old new. new ≡ old ++ rows_text columns (rows_of puts))
-  all_printed ok = subst (λ (r : Status). WhereTold before.written after.written (ScanPrints columns r (rows_of puts) before.sink_faults after.sink_faults)) ok prints
+  all_printed : result ≡ status.Ok → WhereTold before.written after.written (λ old new. new ≡ old ++ rows_text columns rows)
+  all_printed ok =
+      let all = subst (λ (o : Option Files). IfSome o (λ m. ScansOfMap from to m before after result)) told ends.stand columns (table_put puts) stand in
+      range_printed all.0 all.1 all.2 (subst (λ (r : Status). EndsAs all.0 all.1 before after r) ok all.3)
 
   all_puts : (readers : ℕ) (bytes : List ℕ) (lines : List Line) → AreAcceptedLines columns readers 1 0 (lines_of bytes) lines → puts ≡ puts_of (batches_of lines)
-      → IsTableText columns (rows_of puts) (rows_text columns (rows_of puts)) → PrintsAllPuts columns readers bytes before after result
+      → IsTableText columns rows (rows_text columns rows) → PrintsAllPuts columns readers bytes lower upper before after result
   all_puts readers bytes lines are of text = record {
     lines = lines;
     accepted = are;
     printed = λ ok. told_so before.written after.written _ _
-        (λ old new is. (rows_text columns (rows_of puts), subst (λ (ps : List Put). IsTableText columns (rows_of ps) (rows_text columns (rows_of puts))) of text, is)) (all_printed ok);
+        (λ old new is. (rows_text columns rows, subst (λ (ps : List Put). IsTableText columns (range_of lower upper (rows_of ps)) (rows_text columns rows)) of text, is)) (all_printed ok);
     complete = well;
   }
 
 -- what a `load` that ended Ok has done
 module _ (asked : LoadAsked) (bytes : List ℕ) (before after : Outside) (left : before.left ≡ Some bytes) (ends : LoadEnds asked before after status.Ok) where
-  done : (script : Script) × (line : List ℕ) × (loading asked bytes ≡ Ok script) × Loaded asked.columns (puts_of script.batches) before.files after.files line
+  pub done : (script : Script) × (line : List ℕ) × (loading asked bytes ≡ Ok script) × Loaded asked.columns (puts_of script.batches) before.files after.files line
   done =
       subst (λ (o : Option (List ℕ)). IfSome o (λ bs. status.Ok ≡ status.Ok
       → (script : Script) × (line : List ℕ) × (loading asked bs ≡ Ok script) × Loaded asked.columns (puts_of script.batches) before.files after.files line)) left ends.done refl
 
-  taken : script_of asked.columns asked.readers bytes ≡ Ok done.0
+  pub taken : script_of asked.columns asked.readers bytes ≡ Ok done.0
   taken = accepted (script_of asked.columns asked.readers bytes) done.0 done.2
 
-  stands : (files : Files) → after.files ≡ Some files → StandFor files first_generation asked.columns (table_put (puts_of done.0.batches))
+  pub stands : (files : Files) → after.files ≡ Some files → StandFor files first_generation asked.columns (table_put (puts_of done.0.batches))
   stands files there = subst (λ (o : Option Files). IfSome o (λ new. StandFor new first_generation asked.columns (table_put (puts_of done.0.batches)))) there done.3.stand
 
   written : WhereTold before.written after.written (WritesLoad asked (loading asked bytes) before.files after.files status.Ok before.sink_faults after.sink_faults)
@@ -154,10 +203,11 @@ pub reads : HeadlineOfReads
 reads words asked bytes before after ask left ends = answers_all asked bytes before after left (ends.load asked ask)
 
 pub files_scanned : HeadlineOfFiles
-files_scanned words words' asked bytes files before between between' after result ask ask' left there also first second =
+files_scanned words words' asked bytes files from to lower upper before between between' after result ask ask' first' second' left there also first second =
     let ends = first.load asked ask in
     let script = done asked bytes before between left ends in
     let is = taken asked bytes before between left ends in
     let lines = said asked.columns asked.readers bytes script.0 is in
-    all_puts asked.columns files (puts_of script.0.batches) between' after result also (second.scan ask') (stands asked bytes before between left ends files there) asked.readers bytes lines.0 lines.1
-    (ap puts_of lines.2) (table_text asked.columns asked.readers bytes script.0 is)
+    all_puts asked.columns files (puts_of script.0.batches) from to lower upper first' second' between' after result also (second.scan from to ask')
+    (stands asked bytes before between left ends files there) asked.readers bytes lines.0 lines.1
+    (ap puts_of lines.2) (table_text asked.columns asked.readers bytes script.0 is lower upper)

@@ -1,6 +1,3 @@
-pub mod WindowLemmas
-mod WalkLemmas
-mod StepLemmas
 mod ScanLemmas
 mod SchemaLemmas
 mod RequestLemmas
@@ -13,6 +10,10 @@ pub mod RowLemmas
 pub mod Told
 mod RunLemmas
 mod Headline
+mod GetHeadline
 mod ListLemmas
 mod RunPuts
 mod LoadLemmas
+mod GetLemmas
+mod GenLemmas
+mod Generated

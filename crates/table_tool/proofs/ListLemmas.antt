@@ -11,7 +11,7 @@ use Rattle.script_text.specs.declared.script.Script.{Script}
 use Rattle.script_text.specs.Script.{puts_of, script_of}
 use Rattle.script_run.specs.Runs.{HasRoom, IsFullAt}
 use Rattle.table_tool.specs.Input.{TakesScript}
-use Rattle.table_tool.specs.Printed.{rows_text}
+use Rattle.row_text.specs.Printed.{rows_text}
 use Rattle.table_tool.specs.Rows.{rows_of}
 use Rattle.table_tool.specs.Listing.{FillsShard, FitsShard, GivesOrFault, IsListed, IsOfList, ListEnds, WritesRows, listing, listing_of}
 use Rattle.table_tool.specs.Outcome.{IsOrNoMemory, PrintsText, SaysRefusal, ended}

@@ -1,17 +1,15 @@
 -- How `load` ends, by what its parts answer.
-use Rattle.std.proofs.Common.{◌≡◌, ◌⊎◌, ℕ, ◌+◌, ◌≤◌, Bool, true, false, List, [], ◌∷◌, ◌++◌, length, take, Option, None, Some, Result, Ok, Err, IfOk, IfErr, inl, inr, refl, sym, ◌∙◌, ap, subst, arith, append_assoc}
+use Rattle.std.proofs.Common.{◌≡◌, ◌⊎◌, ℕ, ◌≤◌, false, List, [], ◌∷◌, ◌++◌, length, take, Option, None, Some, Result, Ok, Err, IfErr, inl, inr, refl, sym, ◌∙◌, ap, subst, arith, append_assoc}
 use Rattle.std.specs.Prelude.{IfSome, IsTrue, MatchResult}
 use Rattle.std.proofs.lemmas.List.{append-nil}
 use Rattle.outside.specs.Causes.{Rose}
 use Rattle.outside.specs.Files.{Files}
 use Rattle.outside.specs.Told.{WhereTold}
-use Rattle.key_types.specs.Columns.{Columns}
 use Rattle.script_text.specs.Puts.{Batch}
 use Rattle.script_text.specs.Script.{puts_of, script_of}
 use Rattle.script_text.specs.declared.script.Script.{Script}
-use Rattle.script_text.specs.declared.script.ScriptError.{ScriptError}
 use Rattle.script_run.specs.Legal.{IsLegalText}
-use Rattle.script_run.specs.Runs.{HasRoom, IsFirstFull, IsLegalTo, WritesAnswers}
+use Rattle.script_run.specs.Runs.{HasRoom, IsFirstFull, WritesAnswers}
 use Rattle.script_run.specs.declared.run.RunError.{RunError}
 use Rattle.script_run.specs.declared.run.RunError.TheVariants as run_error
 use Rattle.table_files.specs.There.{any_there}
@@ -20,11 +18,10 @@ use Rattle.table_tool.specs.declared.status.Status.TheVariants as status
 use Rattle.table_tool.specs.FaultLine.{fault_line}
 use Rattle.table_tool.specs.First.{first_generation}
 use Rattle.table_tool.specs.Input.{EndsEarly, TakesScript}
-use Rattle.table_tool.specs.Loading.{Answers, ChangesFiles, FillsShards, FitsShards, IsAnswered, IsEarly, IsExists, IsNoneOrAll, IsOfLoad, IsWhole, KeepsFiles, LoadAsked, LoadEnds, Loaded, LoadsOrRefuses, Refused, StopsLoad, WritesLoad, loading, loading_of}
-use Rattle.table_tool.specs.Outcome.{AppendsPrefix, IsOrNoMemory, PrintsText, Says, SaysRefusal, ended}
+use Rattle.table_tool.specs.Loading.{Answers, ChangesFiles, FillsShards, FitsShards, IsAnswered, IsEarly, IsExists, IsNoneOrAll, IsOfLoad, IsWhole, KeepsFiles, LoadAsked, LoadEnds, LoadsOrRefuses, Refused, StopsLoad, WritesLoad, loading, loading_of}
+use Rattle.table_tool.specs.Outcome.{IsOrNoMemory, PrintsText, Says, SaysRefusal, ended}
 use Rattle.table_tool.specs.Outside.{FaultRose, Outside, outside_of}
-use Rattle.table_tool.proofs.EndLemmas.{earlier, either}
-use Rattle.table_tool.proofs.ScanLemmas.{cut_prefix}
+use Rattle.table_tool.proofs.EndLemmas.{cut_prefix, earlier, either, says_earlier}
 use Rattle.table_tool.proofs.Told.{told_none, told_so, told_then}
 
 pub if_so : {A : Type 0} (o : Option A) (P Q : A → Type 0) → ((x : A) → P x → Q x) → IfSome o P → IfSome o Q
@@ -411,32 +408,9 @@ module _ (asked : LoadAsked) (left left' : Option (List ℕ)) (source source' : 
         changes = once.changes;
       }
 
-    -- an early refusal was said at once
-    early_says : (t : Status) → IsEarly t → (x y : List ℕ) → SaysRefusal t sink1 sink2 x y → SaysRefusal t sink sink2 x y
-    early_says t h x y says = by t h says
-      where
-        later_says : (text : List ℕ) → Says text sink1 sink2 x y → Says text sink sink2 x y
-        later_says text (inl e) = inl e
-        later_says text (inr (r, p)) = inr (earlier sink sink1 sink2 once.sink_later r, p)
-
-        by : (t : Status) → IsEarly t → SaysRefusal t sink1 sink2 x y → SaysRefusal t sink sink2 x y
-        by status.Ok h says = absurd h
-        by status.Usage h says = absurd h
-        by status.Key h says = absurd h
-        by (status.BadLine line cause) h says = later_says (fault_line (status.BadLine line cause)) says
-        by (status.Full line) h says = absurd h
-        by status.SourceFault h says = later_says (fault_line status.SourceFault) says
-        by status.SinkFault h says = absurd h
-        by status.StoreFault h says = absurd h
-        by (status.Damaged damage) h says = absurd h
-        by status.Unfinished h says = absurd h
-        by status.Exists h says = later_says (fault_line status.Exists) says
-        by status.TooLarge h says = later_says (fault_line status.TooLarge) says
-        by status.NoMemory h says = absurd h
-
     early_line : WhereTold w1 w2 (SaysRefusal s sink1 sink2) → IsEarly s → WhereTold w w2 (SaysRefusal s sink sink2)
     early_line says h =
-        subst (λ (o : Option (List ℕ)). WhereTold o w2 (SaysRefusal s sink sink2)) (once.early h) (told_so w1 w2 _ _ (early_says s h) says)
+        subst (λ (o : Option (List ℕ)). WhereTold o w2 (SaysRefusal s sink sink2)) (once.early h) (told_so w1 w2 _ _ (says_earlier sink sink1 sink2 once.sink_later s) says)
 
     memory_says : (x y : List ℕ) → SaysRefusal status.NoMemory sink1 sink2 x y → y ≡ x
     memory_says x y e = e

@@ -1,12 +1,12 @@
 -- What the words ask for, and nothing else.
-use Rattle.std.proofs.Common.{◌≡◌, ℕ, Bool, arith, List, map, Result, Ok, Err, inl, inr, refl, sym, ◌∙◌, ap, subst}
+use Rattle.std.proofs.Common.{◌≡◌, ℕ, Bool, true, false, arith, List, Option, map, Result, Ok, Err, inl, inr, refl, sym, ◌∙◌, ap, subst}
 use Rattle.std.specs.Prelude.{string_bytes, ◌⊎◌}
 use Rattle.std.specs.declared.string.String.{String}
 use Rattle.std.specs.declared.alloc.Global.{Global}
 use Rattle.key_types.specs.Columns.{Columns}
 use Rattle.schema_text.proofs.Short.{short}
 use Rattle.schema_text.proofs.Unique.{one}
-use Rattle.command_line.specs.Said.{Said, Way, key, list, load, scan}
+use Rattle.command_line.specs.Said.{Said, Way, gen, get, key, list, load, scan}
 use Rattle.command_line.specs.Reading.{command_of}
 use Rattle.command_line.specs.declared.command.WordsError.TheVariants as error
 use Rattle.command_line.specs.declared.command.WordsError.{WordsError}
@@ -16,9 +16,10 @@ use Rattle.table_tool.specs.Loading.{LoadAsked}
 use Rattle.command_line.specs.Said.{said_of, way_of}
 use Rattle.command_line.specs.declared.command.Command.TheVariants as command
 use Rattle.command_line.specs.declared.command.KeyArguments.{KeyArguments}
+use Rattle.table_tool.specs.declared.request.GeneratedScript.{GeneratedScript}
 use Rattle.table_tool.specs.declared.request.Request.{Request}
 use Rattle.table_tool.specs.declared.request.Request.TheVariants as request
-use Rattle.table_tool.specs.Request.{AreLoad, AreRefused, AskKey, AskList, AskLoad, AskScan, Asks, IsNoSchema, IsSchemaOf, ReadsKey, ReadsSchema, Say, SayLoad, part_kinds, said_way}
+use Rattle.table_tool.specs.Request.{AreRefused, AskGen, AskGet, AskKey, AskList, AskLoad, AskPrint, AskScan, Asks, IsNoSchema, IsSchemaOf, LoadsScript, ReadsKey, ReadsSchema, Say, SaysLoad, generated_bounds, generated_schema, part_kinds, said_way}
 use Rattle.key_types.specs.Kinds.{Kinds}
 use Rattle.key_tool.specs.declared.request.KeyWay.{KeyWay}
 use Rattle.key_tool.specs.declared.request.KeyWay.TheVariants.{Encode, Decode}
@@ -115,28 +116,61 @@ module _ (words : List (String Global)) (kinds : Kinds) (way : KeyWay) (text : L
 
 -- ---- words ask for one command
 
+-- the commands
+pub data Name : Type 0 where
+  ToList : Name
+  ToLoad : Name
+  ToGet : Name
+  ToScan : Name
+  ToKey : Name
+  ToPrint : Name
+  ToGen : Name
+
+-- which of them is said
+abbrev gen_name : Bool → Name
+gen_name true = ToPrint
+gen_name false = ToGen
+
+abbrev name_of : Said → Name
+name_of (list schema cells) = ToList
+name_of (load schema bounds cells readers) = ToLoad
+name_of (get text) = ToGet
+name_of (scan from to) = ToScan
+name_of (key schema clustering way) = ToKey
+name_of (gen seed count gets print cells readers) = gen_name print
+
 module _ (words : List (String Global)) where
-  pub list_not_load : (columns : Columns) (cells : ℕ) (others : LoadAsked) → AskList words columns cells → AskLoad words others → ⊥
-  list_not_load columns cells others (text, say, is) (text', bounds, say', is', of) =
-      let texts : list text cells ≡ load text' bounds others.cells others.readers = same_said _ _ _ say say' in cc
+  -- the words say this command
+  abbrev pub Names : Name → Type 0
+  Names name = (said : Said) × Say words said × (name_of said ≡ name)
 
-  pub list_not_scan : (columns : Columns) (cells : ℕ) → AskList words columns cells → AskScan words → ⊥
-  list_not_scan columns cells (text, say, is) say' = let texts : list text cells ≡ scan = same_said _ _ _ say say' in cc
+  pub one_name : (a b : Name) → Names a → Names b → a ≡ b
+  one_name a b (said, say, is) (said', say', is') = sym is ∙ ap name_of (same_said _ said said' say say') ∙ is'
 
-  pub list_not_key : (columns : Columns) (cells : ℕ) (kinds : Kinds) (way : KeyWay) (text : List ℕ) → AskList words columns cells → AskKey words kinds way text → ⊥
-  list_not_key columns cells kinds way text (list_text, say, is) (schema, others, clustering, say', is', of) =
-      let texts : list list_text cells ≡ key schema clustering (said_way way text) = same_said _ _ _ say say' in cc
+  pub list_names : (columns : Columns) (cells : ℕ) → AskList words columns cells → Names ToList
+  list_names columns cells (text, say, is) = (list text cells, say, refl)
 
-  pub load_not_scan : (asked : LoadAsked) → AskLoad words asked → AskScan words → ⊥
-  load_not_scan asked (text, bounds, say, is, of) say' = let texts : load text bounds asked.cells asked.readers ≡ scan = same_said _ _ _ say say' in cc
+  pub load_names : (asked : LoadAsked) → AskLoad words asked → Names ToLoad
+  load_names asked (text, bounds, say, is, of) = (load text bounds asked.cells asked.readers, say, refl)
 
-  pub load_not_key : (asked : LoadAsked) (kinds : Kinds) (way : KeyWay) (text : List ℕ) → AskLoad words asked → AskKey words kinds way text → ⊥
-  load_not_key asked kinds way text (load_text, bounds, say, is, of) (schema, others, clustering, say', is', of') =
-      let texts : load load_text bounds asked.cells asked.readers ≡ key schema clustering (said_way way text) = same_said _ _ _ say say' in cc
+  pub get_names : (text : List ℕ) → AskGet words text → Names ToGet
+  get_names text say = (get text, say, refl)
 
-  pub scan_not_key : (kinds : Kinds) (way : KeyWay) (text : List ℕ) → AskScan words → AskKey words kinds way text → ⊥
-  scan_not_key kinds way text say (schema, others, clustering, say', is', of) =
-      let texts : scan ≡ key schema clustering (said_way way text) = same_said _ _ _ say say' in cc
+  pub scan_names : (from to : Option (List ℕ)) → AskScan words from to → Names ToScan
+  scan_names from to say = (scan from to, say, refl)
+
+  pub key_names : (kinds : Kinds) (way : KeyWay) (text : List ℕ) → AskKey words kinds way text → Names ToKey
+  key_names kinds way text (schema, columns, clustering, say, is, of) = (key schema clustering (said_way way text), say, refl)
+
+  pub print_names : (script : GeneratedScript) → AskPrint words script → Names ToPrint
+  print_names script (cells, readers, say) = (gen script.seed script.count script.gets true cells readers, say, refl)
+
+  pub gen_names : (script : GeneratedScript) (asked : LoadAsked) → AskGen words script asked → Names ToGen
+  gen_names script asked (say, is) = (gen script.seed script.count script.gets false asked.cells asked.readers, say, refl)
+
+  pub says_names : SaysLoad words → Names ToLoad ⊎ Names ToGen
+  says_names (inl (text, bounds, cells, readers, say)) = inl (load text bounds cells readers, say, refl)
+  says_names (inr (seed, count, gets, cells, readers, say)) = inr (gen seed count gets false cells readers, say, refl)
 
   -- words that say something else than `list`, `load` and `key` aren't refused by a text
   abbrev IsOther : Said → Type 0
@@ -152,8 +186,23 @@ module _ (words : List (String Global)) where
   other_not_refused said other say (inr (inr (others, bounds, (text, cells, readers, say', is'), none))) =
       other.1 text bounds cells readers (same_said _ said (load text bounds cells readers) say say')
 
-  pub scan_not_refused : AskScan words → AreRefused words → ⊥
-  scan_not_refused say are = other_not_refused scan (λ text cells e. cc, λ text bounds cells readers e. cc, λ text clustering way e. cc) say are
+  pub get_not_refused : (text : List ℕ) → AskGet words text → AreRefused words → ⊥
+  get_not_refused text say are =
+      other_not_refused (get text) (λ text cells e. cc, λ text bounds cells readers e. cc, λ text clustering way e. cc) say are
+
+  pub scan_not_refused : (from to : Option (List ℕ)) → AskScan words from to → AreRefused words → ⊥
+  scan_not_refused from to say are =
+      other_not_refused (scan from to) (λ text cells e. cc, λ text bounds cells readers e. cc, λ text clustering way e. cc) say are
+
+  pub print_not_refused : (script : GeneratedScript) → AskPrint words script → AreRefused words → ⊥
+  print_not_refused script (cells, readers, say) are =
+      other_not_refused (gen script.seed script.count script.gets true cells readers)
+      (λ text cells e. cc, λ text bounds cells readers e. cc, λ text clustering way e. cc) say are
+
+  pub gen_not_refused : (script : GeneratedScript) (asked : LoadAsked) → AskGen words script asked → AreRefused words → ⊥
+  gen_not_refused script asked (say, is) are =
+      other_not_refused (gen script.seed script.count script.gets false asked.cells asked.readers)
+      (λ text cells e. cc, λ text bounds cells readers e. cc, λ text clustering way e. cc) say are
 
   pub key_not_refused : (kinds : Kinds) (way : KeyWay) (text : List ℕ) → AskKey words kinds way text → AreRefused words → ⊥
   key_not_refused kinds way text (schema, columns, clustering, say, is, of) (inl e) = let both = sym say ∙ e in cc
@@ -168,30 +217,60 @@ module _ (words : List (String Global)) where
   key_not_refused kinds way text (schema, columns, clustering, say, is, of) (inr (inr (others, bounds, (other, cells, readers, say', is'), none))) =
       let texts : key schema clustering (said_way way text) ≡ load other bounds cells readers = same_said _ _ _ say say' in cc
 
--- ---- whether the words say `load`
+-- ---- `scan` and `gen`
 
 module _ (words : List (String Global)) where
-  pub says_other : (said : Said) → Say words said → ((text bounds : List ℕ) (cells readers : ℕ) → said ≡ load text bounds cells readers → ⊥) → ¬ (AreLoad words)
-  says_other said say other (asked, (text, bounds, say', is, of)) =
-      other text bounds asked.cells asked.readers (same_said _ said (load text bounds asked.cells asked.readers) say say')
+  pub get_one : (text text' : List ℕ) → AskGet words text → AskGet words text' → text ≡ text'
+  get_one text text' say say' = let texts : get text ≡ get text' = same_said _ _ _ say say' in cc
 
-  pub says_none : command_of (map string_bytes words) ≡ Err error.Usage → ¬ (AreLoad words)
-  says_none none (asked, (text, bounds, say', is, of)) = let both = sym none ∙ say' in cc
+  pub scan_one : (from to from' to' : Option (List ℕ)) → AskScan words from to → AskScan words from' to' → (from ≡ from') × (to ≡ to')
+  scan_one from to from' to' say say' = let texts : scan from to ≡ scan from' to' = same_said _ _ _ say say' in (cc, cc)
 
-  -- words that say `load`, or are refused, ask for no other command
-  pub load_no_list : SayLoad words ⊎ AreRefused words → (columns : Columns) (cells : ℕ) → AskList words columns cells → ⊥
-  load_no_list (inl (text, bounds, cells', readers, say')) columns cells (list_text, say, is) =
-      let texts : list list_text cells ≡ load text bounds cells' readers = same_said _ _ _ say say' in cc
-  load_no_list (inr are) columns cells ask = list_not_refused words columns cells ask are
+  same_script : (a b : GeneratedScript) → a.seed ≡ b.seed → a.count ≡ b.count → a.gets ≡ b.gets → a ≡ b
+  same_script a b seed count gets = λ i. record { seed = seed i; count = count i; gets = gets i }
 
-  pub load_no_scan : SayLoad words ⊎ AreRefused words → AskScan words → ⊥
-  load_no_scan (inl (text, bounds, cells, readers, say')) say = let texts : scan ≡ load text bounds cells readers = same_said _ _ _ say say' in cc
-  load_no_scan (inr are) ask = scan_not_refused words ask are
+  pub print_one : (a b : GeneratedScript) → AskPrint words a → AskPrint words b → a ≡ b
+  print_one a b (cells, readers, say) (cells', readers', say') =
+      let texts : gen a.seed a.count a.gets true cells readers ≡ gen b.seed b.count b.gets true cells' readers' = same_said _ _ _ say say' in
+      let seed : a.seed ≡ b.seed = cc in
+      let count : a.count ≡ b.count = cc in
+      let gets : a.gets ≡ b.gets = cc in
+      same_script a b seed count gets
 
-  pub load_no_key : SayLoad words ⊎ AreRefused words → (kinds : Kinds) (way : KeyWay) (text : List ℕ) → AskKey words kinds way text → ⊥
-  load_no_key (inl (load_text, bounds, cells, readers, say')) kinds way text (schema, columns, clustering, say, is, of) =
-      let texts : key schema clustering (said_way way text) ≡ load load_text bounds cells readers = same_said _ _ _ say say' in cc
-  load_no_key (inr are) kinds way text ask = key_not_refused words kinds way text ask are
+  pub gen_one : (a b : GeneratedScript) (asked asked' : LoadAsked) → AskGen words a asked → AskGen words b asked' → (a ≡ b) × (asked ≡ asked')
+  gen_one a b asked asked' (say, is) (say', is') =
+      let texts : gen a.seed a.count a.gets false asked.cells asked.readers ≡ gen b.seed b.count b.gets false asked'.cells asked'.readers =
+      same_said _ _ _ say say' in
+      let cells : asked.cells ≡ asked'.cells = cc in
+      let readers : asked.readers ≡ asked'.readers = cc in
+      let seed : a.seed ≡ b.seed = cc in
+      let count : a.count ≡ b.count = cc in
+      let gets : a.gets ≡ b.gets = cc in
+      let columns = one_schema_of generated_schema asked.columns asked'.columns is.schema is'.schema in
+      let strings = one_bounds asked'.columns generated_bounds asked.bounds asked'.bounds
+      (subst (λ (c : Columns). IsBoundsText c generated_bounds asked.bounds) columns is.bounds) is'.bounds in
+      (same_script a b seed count gets, λ i. record { columns = columns i; bounds = strings i; cells = cells i; readers = readers i })
+
+-- ---- whether the words say `load`, or `gen` without `--print`
+
+module _ (words : List (String Global)) where
+  pub says_other : (name : Name) → Names words name → (name ≡ ToLoad → ⊥) → (name ≡ ToGen → ⊥) → ¬ (LoadsScript words)
+  says_other name says other more (inl (asked, ask)) = other (one_name words name ToLoad says (load_names words asked ask))
+  says_other name says other more (inr (script, asked, ask)) = more (one_name words name ToGen says (gen_names words script asked ask))
+
+  pub says_none : command_of (map string_bytes words) ≡ Err error.Usage → ¬ (LoadsScript words)
+  says_none none (inl (asked, (text, bounds, say', is, of))) = let both = sym none ∙ say' in cc
+  says_none none (inr (script, asked, (say', is))) = let both = sym none ∙ say' in cc
+
+  -- words that say one of the two, or are refused, ask for no other command
+  pub load_no_other : (name : Name) → (name ≡ ToLoad → ⊥) → (name ≡ ToGen → ⊥) → (AreRefused words → ⊥)
+      → SaysLoad words ⊎ AreRefused words → Names words name → ⊥
+  load_no_other name other more sound (inl says) names = by (says_names words says)
+    where
+      by : Names words ToLoad ⊎ Names words ToGen → ⊥
+      by (inl loads) = other (one_name words name ToLoad names loads)
+      by (inr gens) = more (one_name words name ToGen names gens)
+  load_no_other name other more sound (inr are) names = sound are
 
 -- ---- what is answered
 
@@ -212,7 +291,10 @@ module _ (words : List (String Global)) where
   pub asks_key : (arguments : KeyArguments) (r : Result Request WordsError) → Say words (said_of (command.Key arguments)) → ReadsKey arguments r → Asks words r
   asks_key arguments (Ok (request.List asked)) say reads = absurd reads
   asks_key arguments (Ok (request.Load asked)) say reads = absurd reads
-  asks_key arguments (Ok request.Scan) say reads = absurd reads
+  asks_key arguments (Ok (request.Get text)) say reads = absurd reads
+  asks_key arguments (Ok (request.Scan asked)) say reads = absurd reads
+  asks_key arguments (Ok (request.Print script)) say reads = absurd reads
+  asks_key arguments (Ok (request.Gen asked)) say reads = absurd reads
   asks_key arguments (Ok (request.Key asked)) say (columns, is, kinds, way) = (
     string_bytes arguments.schema,
     columns,

@@ -1,19 +1,16 @@
 -- The puts and gets of an accepted script may be run in shards between bounds of a text.
-use Rattle.std.proofs.Common.{◌≡◌, ℕ, zero, suc, true, ◌+◌, ◌≤◌, ◌<◌, List, [], ◌∷◌, ◌++◌, length, slice_get, Some, inl, inr, refl, sym, ◌∙◌, ap, subst, arith}
-use Rattle.std.proofs.lemmas.List.{nil_from_length, append-nil}
+use Rattle.std.proofs.Common.{◌≡◌, ℕ, zero, suc, true, ◌+◌, ◌≤◌, List, [], ◌∷◌, length, slice_get, Some, inl, inr, ap, subst, arith}
+use Rattle.std.proofs.lemmas.List.{nil_from_length}
 use Rattle.std.specs.Prelude.{◌⊎◌}
 use Rattle.std.proofs.Common.{length-append}
 use Rattle.std.specs.List.{AllByRecursion}
 use Rattle.key_types.specs.Columns.{Columns, IsValueOf}
-use Rattle.key_types.specs.Kinds.{Kinds, Vals, EachFits}
+use Rattle.key_types.specs.Kinds.{Kinds}
 use Rattle.key_types.specs.declared.schema.ValueType.{ValueType}
 use Rattle.key_types.specs.declared.schema.ValueType.TheVariants.{Text, Blob}
-use Rattle.byte_comparable.specs.Encoding.{key_string}
 use Rattle.key_decode.specs.Strings.{IsStringOf}
 use Rattle.script_text.specs.Puts.{Put, Get}
-use Rattle.script_text.specs.declared.script.Script.{Script}
-use Rattle.script_text.specs.Laws.{AreDealt, AreGets, ArePuts, IsAccepted, IsKeyString, IsSchemaGet, IsSchemaPut, IsRowPut, IsStaticGet, IsStaticPut}
-use Rattle.script_text.specs.Script.{gets_of, puts_of}
+use Rattle.script_text.specs.Laws.{AreDealt, AreGets, ArePuts, IsKeyString, IsSchemaPut, IsRowPut, IsStaticGet, IsStaticPut}
 use Rattle.script_run.specs.Runs.{BeginsNoBound, IsRunGet, IsRunPut}
 use Rattle.bounds_text.specs.Bounds.{AreBoundLists, IsBoundsText}
 use Rattle.flush_walk.proofs.Ascending.{one_string}

@@ -13,7 +13,7 @@ use Rattle.table_tool.specs.Input.{EndsEarly}
 use Rattle.table_tool.specs.Outcome.{AppendsPrefix, IsOrNoMemory, WritesRefusal, ended}
 use Rattle.table_tool.specs.Outside.{FaultRose, KeepsStore, Outside, SinkFails, SourceFails}
 use Rattle.table_tool.specs.Rows.{rows_of}
-use Rattle.table_tool.specs.Printed.{rows_text}
+use Rattle.row_text.specs.Printed.{rows_text}
 
 -- the text of a script's rows, or the status of its refusal
 abbrev pub listing_of : Columns → Result Script ScriptError → Result (List ℕ) Status

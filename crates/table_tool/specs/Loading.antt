@@ -1,12 +1,12 @@
 -- How `load` ends, what it leaves in the store, and what it writes. This project's own.
-use Rattle.std.specs.Prelude.{◌≡◌, ◌⊎◌, ◌≤◌, ℕ, false, List, [], ◌++◌, length, take, codes, Option, Result, Ok, Err, IfOk, IfSome, IsTrue}
+use Rattle.std.specs.Prelude.{◌≡◌, ◌⊎◌, ℕ, false, List, [], ◌++◌, length, codes, Option, Result, Ok, Err, IfSome, IsTrue}
 use Rattle.std.specs.Fmt.{decimal}
 use Rattle.outside.specs.Told.{WhereTold}
 use Rattle.outside.specs.Files.{Files}
 use Rattle.key_types.specs.Columns.{Columns}
 use Rattle.key_types.specs.Table.{Entry}
 use Rattle.data_file.specs.Listing.{Partition}
-use Rattle.script_text.specs.Puts.{Put, Batch}
+use Rattle.script_text.specs.Puts.{Put}
 use Rattle.script_text.specs.declared.script.Script.{Script}
 use Rattle.script_text.specs.declared.script.ScriptError.{ScriptError}
 use Rattle.script_text.specs.declared.script.ScriptError.TheVariants as script_error

@@ -1,5 +1,5 @@
 -- What the words ask for. This project's own.
-use Rattle.std.specs.Prelude.{◌≡◌, ◌⊎◌, ◌≤◌, ℕ, Bool, true, false, List, length, map, string_bytes, Result, Ok, Err}
+use Rattle.std.specs.Prelude.{◌≡◌, ◌⊎◌, ◌≤◌, ℕ, Bool, true, false, List, codes, length, map, string_bytes, Option, option_map, Result, Ok, Err}
 use Rattle.std.specs.declared.string.String.{String}
 use Rattle.std.specs.declared.alloc.Global.{Global}
 use Rattle.key_types.specs.declared.schema.Schema.{Schema}
@@ -9,7 +9,7 @@ use Rattle.schema_text.specs.Bounds.{KeepsBounds}
 use Rattle.schema_text.specs.Grammar.{IsSchemaText}
 use Rattle.schema_text.specs.declared.reading.SchemaError.{SchemaError}
 use Rattle.schema_text.specs.declared.reading.SchemaError.TheVariants as schema_error
-use Rattle.command_line.specs.Said.{AreCells, Said, Way, decode, encode, key, list, load, scan, way_of}
+use Rattle.command_line.specs.Said.{AreCells, AreRows, Said, Way, decode, encode, gen, get, key, list, load, scan, way_of}
 use Rattle.command_line.specs.declared.command.KeyArguments.{KeyArguments}
 use Rattle.key_tool.specs.declared.request.KeyWay.{KeyWay}
 use Rattle.key_tool.specs.declared.request.KeyWay.TheVariants.{Encode, Decode}
@@ -20,6 +20,7 @@ use Rattle.command_line.specs.declared.command.WordsError.TheVariants as error
 use Rattle.bounds_text.specs.Bounds.{IsBoundsText, IsNoBoundsText}
 use Rattle.table_files.specs.SchemaFile.{HaveSchemaFile}
 use Rattle.table_tool.specs.Loading.{LoadAsked}
+use Rattle.table_tool.specs.declared.request.GeneratedScript.{GeneratedScript}
 use Rattle.table_tool.specs.declared.request.LoadRequest.{LoadRequest}
 use Rattle.table_tool.specs.declared.request.Request.{Request}
 use Rattle.table_tool.specs.declared.request.Request.TheVariants as request
@@ -43,9 +44,36 @@ abbrev pub AskLoad : List (String Global) → LoadAsked → Type 0
 AskLoad words asked = (text : List ℕ) × (bounds : List ℕ) × Say words (load text bounds asked.cells asked.readers)
     × IsSchemaOf text asked.columns × IsBoundsText asked.columns bounds asked.bounds
 
--- they are `scan`
-abbrev pub AskScan : List (String Global) → Type 0
-AskScan words = Say words scan
+-- they are `get` and the text of a key
+abbrev pub AskGet : List (String Global) → List ℕ → Type 0
+AskGet words text = Say words (get text)
+
+-- they are `scan` with the texts of its two bounds, each there or not
+abbrev pub AskScan : List (String Global) → Option (List ℕ) → Option (List ℕ) → Type 0
+AskScan words from to = Say words (scan from to)
+
+-- they are `gen --print` with the numbers of a script; cells and readers say nothing then
+abbrev pub AskPrint : List (String Global) → GeneratedScript → Type 0
+AskPrint words script =
+    (cells : ℕ) × (readers : ℕ) × Say words (gen script.seed script.count script.gets true cells readers)
+
+-- the text of the schema of generated scripts
+abbrev pub generated_schema : List ℕ
+generated_schema = codes "(text, int; bigint reversed; text)"
+
+-- the text of the bounds between the shards that they are loaded into
+abbrev pub generated_bounds : List ℕ
+generated_bounds = codes "('u3', 0) ('u5', 0) ('u8', 0)"
+
+-- what is asked for has the schema and the bounds of generated scripts
+pub record IsGenerated (asked : LoadAsked) : Type 0 where
+  pub schema : IsSchemaOf generated_schema asked.columns
+  pub bounds : IsBoundsText asked.columns generated_bounds asked.bounds
+
+-- they are `gen` without `--print`, with the numbers of a script, and so many cells and readers
+abbrev pub AskGen : List (String Global) → GeneratedScript → LoadAsked → Type 0
+AskGen words script asked =
+    Say words (gen script.seed script.count script.gets false asked.cells asked.readers) × IsGenerated asked
 
 -- what the words of `key` say of a way and a text
 abbrev pub said_way : KeyWay → List ℕ → Way
@@ -66,17 +94,55 @@ AskKey words kinds way text = (schema : List ℕ) × (columns : Columns) × (clu
 abbrev pub AreKey : List (String Global) → Type 0
 AreKey words = (kinds : Kinds) × (way : KeyWay) × (text : List ℕ) × AskKey words kinds way text
 
+-- they are `list`, and its text is accepted
+abbrev pub AreList : List (String Global) → Type 0
+AreList words = (columns : Columns) × (cells : ℕ) × AskList words columns cells
+
 -- they are `load`, and its texts are accepted
 abbrev pub AreLoad : List (String Global) → Type 0
 AreLoad words = (asked : LoadAsked) × AskLoad words asked
+
+-- they are `get`
+abbrev pub AreGet : List (String Global) → Type 0
+AreGet words = (text : List ℕ) × AskGet words text
+
+-- they are `scan`
+abbrev pub AreScan : List (String Global) → Type 0
+AreScan words = (from : Option (List ℕ)) × (to : Option (List ℕ)) × AskScan words from to
+
+-- they are `gen --print`
+abbrev pub ArePrint : List (String Global) → Type 0
+ArePrint words = (script : GeneratedScript) × AskPrint words script
+
+-- they are `gen` without `--print`
+abbrev pub AreGen : List (String Global) → Type 0
+AreGen words = (script : GeneratedScript) × (asked : LoadAsked) × AskGen words script asked
+
+-- they are a command whose texts are accepted
+abbrev pub AskSome : List (String Global) → Type 0
+AskSome words =
+    AreList words ⊎ AreLoad words ⊎ AreGet words ⊎ AreScan words ⊎ AreKey words ⊎ ArePrint words ⊎ AreGen words
+
+-- they run batches of a script
+abbrev pub LoadsScript : List (String Global) → Type 0
+LoadsScript words = AreLoad words ⊎ AreGen words
+
+-- they ask the store for anything
+abbrev pub AsksStore : List (String Global) → Type 0
+AsksStore words = LoadsScript words ⊎ AreGet words ⊎ AreScan words
 
 -- they say `load`, with any texts for its schema and its bounds
 abbrev pub SayLoad : List (String Global) → Type 0
 SayLoad words = (text : List ℕ) × (bounds : List ℕ) × (cells : ℕ) × (readers : ℕ) × Say words (load text bounds cells readers)
 
--- they are a command whose texts are accepted
-abbrev pub AskSome : List (String Global) → Type 0
-AskSome words = ((columns : Columns) × (cells : ℕ) × AskList words columns cells) ⊎ AreLoad words ⊎ AskScan words ⊎ AreKey words
+-- they say `gen` without `--print`
+abbrev pub SayGen : List (String Global) → Type 0
+SayGen words = (seed : ℕ) × (count : ℕ) × (gets : ℕ) × (cells : ℕ) × (readers : ℕ)
+    × Say words (gen seed count gets false cells readers)
+
+-- they say one of the two
+abbrev pub SaysLoad : List (String Global) → Type 0
+SaysLoad words = SayLoad words ⊎ SayGen words
 
 -- no schema has the text that stands for one
 abbrev pub IsNoSchema : List ℕ → Type 0
@@ -119,7 +185,12 @@ ReadsSchema text (Err error.NoMemory) = Unit {0}
 abbrev pub ReadsKey : KeyArguments → Result Request WordsError → Type 0
 ReadsKey arguments (Ok (request.Key asked)) = (columns : Columns) × IsSchemaOf (string_bytes arguments.schema) columns
     × (kinds_in asked.part asked.schema ≡ part_kinds arguments.clustering columns) × (way_of arguments.way ≡ said_way asked.way (string_bytes asked.text))
-ReadsKey arguments (Ok _) = ⊥
+ReadsKey arguments (Ok (request.List asked)) = ⊥
+ReadsKey arguments (Ok (request.Load asked)) = ⊥
+ReadsKey arguments (Ok (request.Get text)) = ⊥
+ReadsKey arguments (Ok (request.Scan asked)) = ⊥
+ReadsKey arguments (Ok (request.Print script)) = ⊥
+ReadsKey arguments (Ok (request.Gen asked)) = ⊥
 ReadsKey arguments (Err error.Usage) = IsNoSchema (string_bytes arguments.schema)
 ReadsKey arguments (Err error.NoMemory) = Unit {0}
 
@@ -139,8 +210,11 @@ pub record CanLoad (asked : LoadRequest) : Type 0 where
 abbrev pub CanRun : Request → Type 0
 CanRun (request.List asked) = AreCells asked.cells
 CanRun (request.Load asked) = CanLoad asked
-CanRun request.Scan = Unit {0}
+CanRun (request.Get text) = Unit {0}
+CanRun (request.Scan asked) = Unit {0}
 CanRun (request.Key asked) = Unit {0}
+CanRun (request.Print script) = AreRows script.count script.gets
+CanRun (request.Gen asked) = AreRows asked.script.count asked.script.gets × CanLoad asked.load
 
 -- the bounds of the text, or Usage where it is of none
 abbrev pub ReadsBounds : Columns → List ℕ → Result (List (List ℕ)) WordsError → Type 0
@@ -152,12 +226,16 @@ ReadsBounds columns text (Err error.NoMemory) = Unit {0}
 abbrev pub Asks : List (String Global) → Result Request WordsError → Type 0
 Asks words (Ok (request.List asked)) = AskList words (columns_of asked.schema) asked.cells
 Asks words (Ok (request.Load asked)) = AskLoad words (asked_of asked)
-Asks words (Ok request.Scan) = AskScan words
+Asks words (Ok (request.Get text)) = AskGet words (string_bytes text)
+Asks words (Ok (request.Scan asked)) =
+    AskScan words (option_map string_bytes asked.from) (option_map string_bytes asked.to)
 Asks words (Ok (request.Key asked)) = AskKey words (kinds_in asked.part asked.schema) asked.way (string_bytes asked.text)
+Asks words (Ok (request.Print script)) = AskPrint words script
+Asks words (Ok (request.Gen asked)) = AskGen words asked.script (asked_of asked.load)
 Asks words (Err error.Usage) = AreRefused words
 Asks words (Err error.NoMemory) = Unit {0}
 
--- true where the words say `load`, and false where they ask for no `load`
+-- true where the words say `load`, or `gen` without `--print`, and false where they ask for neither
 abbrev pub TellsLoad : List (String Global) → Bool → Type 0
-TellsLoad words true = SayLoad words
-TellsLoad words false = ¬ (AreLoad words)
+TellsLoad words true = SaysLoad words
+TellsLoad words false = ¬ (LoadsScript words)

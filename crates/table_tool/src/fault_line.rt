@@ -2,11 +2,11 @@
 ghost use Rattle.std.specs.Prelude.{◌≡◌, ◌++◌, OnOk, IfOk};
 ghost use Rattle.table_tool.specs.FaultLine.{cause_text, damage_text, fault_line, part_text};
 
-use crate::numbers::put_number;
 use crate::status::Status;
 use bti_nodes::{Cause, Damage};
 use key_types::{ByteList, NoMemory};
 use outside::Part;
+use row_text::put_number;
 use script_text::LineCause;
 use std::alloc::Global;
 

@@ -3,22 +3,21 @@
 
 mod fault_line;
 mod first;
+mod generate;
+mod get;
 mod input;
 mod key;
 mod laws;
 mod list;
 mod load;
-mod numbers;
 mod printing;
 mod request;
 mod saying;
 mod scan;
 mod status;
 mod tool;
-mod walk;
-mod window;
 
-pub use laws::{law_headline, law_keys_are_named};
+pub use laws::law_headline;
 pub use status::Status;
 pub use tool::{run, run_load, run_query};
 

@@ -6,7 +6,7 @@ ghost use Rattle.key_types.specs.Columns.{columns_of};
 ghost use Rattle.script_text.specs.Script.{puts_of};
 ghost use Rattle.script_run.specs.Runs.{HasRoom, IsFullAt};
 ghost use Rattle.table_tool.specs.Rows.{rows_of};
-ghost use Rattle.table_tool.specs.Printed.{rows_text};
+ghost use Rattle.row_text.specs.Printed.{rows_text};
 ghost use Rattle.table_tool.specs.Input.{EndsEarly, IsSpelled};
 ghost use Rattle.table_tool.specs.Listing.{listing, FillsShard, FitsShard, GivesOrFault, ListEnds, StopsList};
 ghost use Rattle.table_tool.specs.Outside.{outside_of};

@@ -18,7 +18,6 @@ ghost use Rattle.table_tool.specs.Loading.{ok_line, loading, Answers, ChangesFil
 
 use crate::first::FIRST_GENERATION;
 use crate::input::take_script;
-use crate::numbers::put_number;
 use crate::request::LoadRequest;
 use crate::saying::{print, refuse};
 use crate::status::Status;
@@ -26,6 +25,7 @@ use bti_nodes::PackError;
 use flush_walk::flush;
 use key_types::{ByteList, NoMemory, Schema};
 use outside::{Failed, Gate, Sink, Source, Store};
+use row_text::put_number;
 use script_run::{RunError, run_script};
 use script_text::Script;
 use shard_table::FrozenTable;
@@ -153,8 +153,8 @@ fn load_source<R: Threads + Sync, S: Source, O: Sink, K: Store, G: Gate>(
     load_script(rt, alloc, request, &script, gate, out, store)
 }
 
-/// The same, where no file is there, and else Exists.
-fn load_once<R: Threads + Sync, S: Source, O: Sink, K: Store, G: Gate>(
+/// The same, where no file is there, and else Exists. `gen` calls it too.
+pub fn load_once<R: Threads + Sync, S: Source, O: Sink, K: Store, G: Gate>(
     rt: &R,
     alloc: Global,
     request: LoadRequest,

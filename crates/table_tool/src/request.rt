@@ -1,18 +1,20 @@
 //! What the words ask for.
-ghost use Rattle.std.specs.Prelude.{◌≡◌, List, IfOk};
+ghost use Rattle.std.specs.Prelude.{◌≡◌, List, IfErr, IfOk};
 ghost use Rattle.std.specs.declared.string.String.{String};
 ghost use Rattle.std.specs.declared.alloc.Global.{Global};
 ghost use Rattle.std.specs.String.{string_bytes};
 ghost use Rattle.key_types.specs.Columns.{columns_of};
-ghost use Rattle.command_line.specs.Said.{IsLimited, said_of, way_of};
+ghost use Rattle.command_line.specs.Said.{AreCells, AreReaders, IsLimited, said_of, way_of};
 ghost use Rattle.key_tool.specs.Shown.{kinds_in};
-ghost use Rattle.table_tool.specs.Request.{Asks, CanRun, ReadsBounds, ReadsKey, Say, ReadsSchema, TellsLoad, part_kinds, said_way, words_error};
+ghost use Rattle.table_tool.specs.Request.{Asks, CanLoad, CanRun, IsGenerated, ReadsBounds, ReadsKey, Say, ReadsSchema, TellsLoad, asked_of, part_kinds, said_way, words_error};
 
 use bounds_text::{BoundsError, read_bounds};
-use command_line::{Command, KeyArguments, LoadArguments, WordsError, read_words};
+use command_line::{
+    Command, GenArguments, KeyArguments, LoadArguments, ScanArguments, WordsError, read_words,
+};
 use key_tool::{KeyPart, KeyWay};
 use key_types::{NoMemory, Schema};
-use schema_text::{SchemaError, read_schema};
+use schema_text::{SchemaError, law_schema_texts, read_schema};
 use shard_table::KeyList;
 use std::alloc::Global;
 
@@ -35,6 +37,23 @@ pub struct LoadRequest {
     pub readers: u32,
 }
 
+/// The numbers of a generated script.
+#[derive(Clone, Copy)]
+pub struct GeneratedScript {
+    pub seed: u64,
+    /// How many rows are put.
+    pub count: u32,
+    /// How many lines read one.
+    pub gets: u32,
+}
+
+/// What `gen` is asked for where its script is loaded.
+#[derive(Drop)]
+pub struct GenRequest {
+    pub script: GeneratedScript,
+    pub load: LoadRequest,
+}
+
 /// What `key` is asked for.
 #[derive(Drop)]
 pub struct KeyRequest {
@@ -52,10 +71,16 @@ pub enum Request {
     List(ListRequest),
     /// Answer the gets of a script, and write the files of its rows.
     Load(LoadRequest),
-    /// Print the rows of the files.
-    Scan,
+    /// Print the value that the files have at a key, which is given as its text.
+    Get(String),
+    /// Print the rows of the files between two bounds.
+    Scan(ScanArguments),
     /// Print the string of components, or the components of a string.
     Key(KeyRequest),
+    /// Print a generated script.
+    Print(GeneratedScript),
+    /// Do what `load` does of a generated script.
+    Gen(GenRequest),
 }
 
 /// A text that is refused as a schema is Usage.
@@ -144,6 +169,43 @@ fn load_request(alloc: Global, arguments: LoadArguments) -> Result<Request, Word
     }))
 }
 
+/// What `load` is asked for of a generated script.
+fn generated_load(alloc: Global, cells: u32, readers: u32) -> Result<LoadRequest, WordsError>
+    requires cells { AreCells cells }
+    requires readers { AreReaders readers }
+    ensures asks { IfOk result (λ load. IsGenerated (asked_of load) × (load.cells ≡ cells) × (load.readers ≡ readers)) }
+    ensures can { IfOk result CanLoad }
+    ensures memory { IfErr result (λ e. e ≡ WordsError.NoMemory) }
+{
+    law_schema_texts();
+    let schema = schema_of(alloc, "(text, int; bigint reversed; text)")?;
+    let bounds = bounds_of(alloc, &schema, "('u3', 0) ('u5', 0) ('u8', 0)")?;
+    Ok(LoadRequest {
+        schema,
+        bounds,
+        cells,
+        readers,
+    })
+}
+
+/// What the words of `gen` ask for.
+fn gen_request(alloc: Global, arguments: GenArguments) -> Result<Request, WordsError>
+    requires { IsLimited (Command.Gen arguments) }
+    ensures asks { (words : List (String Global)) → Say words (said_of (Command.Gen arguments)) → Asks words result }
+    ensures can { IfOk result CanRun }
+{
+    let script = GeneratedScript {
+        seed: arguments.seed,
+        count: arguments.count,
+        gets: arguments.gets,
+    };
+    if arguments.print {
+        return Ok(Request::Print(script));
+    }
+    let load = generated_load(alloc, arguments.cells, arguments.readers)?;
+    Ok(Request::Gen(GenRequest { script, load }))
+}
+
 /// What the words ask for, or Usage.
 pub fn read_request(alloc: Global, words: &[String]) -> Result<Request, WordsError>
     ensures asks { Asks words.now result }
@@ -156,18 +218,22 @@ pub fn read_request(alloc: Global, words: &[String]) -> Result<Request, WordsErr
             Ok(Request::List(ListRequest { schema, cells }))
         }
         Command::Load(arguments) => load_request(alloc, arguments),
-        Command::Scan => Ok(Request::Scan),
+        Command::Get(arguments) => Ok(Request::Get(arguments.key)),
+        Command::Scan(arguments) => Ok(Request::Scan(arguments)),
         Command::Key(arguments) => key_request(alloc, arguments),
+        Command::Gen(arguments) => gen_request(alloc, arguments),
     }
 }
 
-/// Whether the words are those of `load`; their schema isn't looked at.
+/// Whether the words are those of `load`, or of a `gen` that does what `load` does; their schema isn't looked at.
 pub fn says_load(alloc: Global, words: &[String]) -> Result<bool, NoMemory>
     ensures { IfOk result (TellsLoad words.now) }
 {
     match read_words(alloc, words) {
         Ok(Command::Load(_)) => Ok(true),
-        Ok(Command::List(_)) | Ok(Command::Scan) | Ok(Command::Key(_)) => Ok(false),
+        Ok(Command::Gen(arguments)) => Ok(!arguments.print),
+        Ok(Command::List(_)) | Ok(Command::Get(_)) | Ok(Command::Scan(_)) | Ok(Command::Key(_)) =>
+            Ok(false),
         Err(WordsError::Usage) => Ok(false),
         Err(WordsError::NoMemory) => Err(NoMemory),
     }

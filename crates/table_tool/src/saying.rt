@@ -24,6 +24,19 @@ pub fn refuse<O: Sink>(alloc: Global, out: &mut O, status: Status) -> Status
     }
 }
 
+/// Pushes the line of a refusal, where the status is one, and answers the status.
+pub fn refuse_or_end<O: Sink>(alloc: Global, out: &mut O, status: Status) -> Status
+    requires { IsRefusal status ⊎ status ≡ Status.NoMemory }
+    ensures status { IsOrNoMemory status result }
+    ensures told { WhereTold (O.written out.old) (O.written out.new) (SaysRefusal result (O.faults out.old) (O.faults out.new)) }
+    ensures later { O.faults out.old ≤ O.faults out.new }
+{
+    match status {
+        Status::NoMemory => Status::NoMemory,
+        status => refuse(alloc, out, status),
+    }
+}
+
 /// Pushes a text, and answers Ok or a fault of the sink.
 pub fn print<O: Sink>(out: &mut O, text: &[u8]) -> Status
     ensures cases { result ≡ Status.Ok ⊎ result ≡ Status.SinkFault }

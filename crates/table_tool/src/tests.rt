@@ -63,6 +63,15 @@ fn each_call_ends_with_its_status(rt: HostRuntime) -> Result<(), Fail> {
             ),
             (&["load", "--schema", schema], b"put", 9, "error: exists\n"),
             (&["scan"], b"", 0, "(1) () = 'b'\n(2) () = 'a'\nrows 2\n"),
+            (&["scan", "--to=(1)"], b"", 0, "(1) () = 'b'\nrows 1\n"),
+            (&["get", "(2) ()"], b"", 0, "'a'\n"),
+            (
+                &["gen", "--seed=1", "--count=1", "--print"],
+                b"",
+                0,
+                "put ('u0', 0) (0) = '6c576fac43fd007c'\n",
+            ),
+            (&["gen", "--seed=1", "--count=1"], b"", 9, "error: exists\n"),
             (
                 &["key", "--schema", schema, "--decode", "00"],
                 b"",

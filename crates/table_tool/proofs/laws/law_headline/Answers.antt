@@ -1,3 +1,4 @@
+use Rattle.table_tool.proofs.GetHeadline.{files_asked}
 use Rattle.table_tool.proofs.Headline.{files_scanned, reads}
 use Rattle.table_tool.proofs.laws.law_headline.Goals as goal
 
@@ -6,3 +7,6 @@ returns-clause-reads c = reads
 
 pub returns-clause-files : goal.returns-clause-files
 returns-clause-files c = files_scanned
+
+pub returns-clause-gets : goal.returns-clause-gets
+returns-clause-gets c = files_asked

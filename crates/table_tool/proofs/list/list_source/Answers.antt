@@ -1,4 +1,4 @@
-use Rattle.std.proofs.Common.{◌≡◌, Err, rules}
+use Rattle.std.proofs.Common.{rules}
 use Rattle.key_types.specs.Columns.{columns_of}
 use Rattle.table_tool.proofs.ListLemmas.{full_fills, full_never, full_told}
 use Rattle.table_tool.proofs.list.list_source.Goals as goal

@@ -1,11 +1,12 @@
-use Rattle.std.proofs.Common.{◌≡◌, ◌++◌, ◌∙◌, List, ℕ, ap, arith, rules, sym, subst}
+use Rattle.std.proofs.Common.{◌≡◌, ◌++◌, ◌∙◌, List, ℕ, ap, arith, sym, subst}
 use Rattle.key_types.specs.Columns.{columns_of}
 use Rattle.key_printing.specs.Texts.{IsTextOf}
 use Rattle.shard_table.specs.Together.{left_in, shard_entries}
 use Rattle.shard_table.proofs.Listed.{next_given}
 use Rattle.flush_walk.specs.Entries.{clustering_in, partition_in}
-use Rattle.table_tool.specs.Printed.{entry_line}
-use Rattle.table_tool.proofs.PrintedLemmas.{count_few, next_count, next_line, rest_are, row_few}
+use Rattle.row_text.specs.Printed.{entry_line}
+use Rattle.row_text.proofs.PrintedLemmas.{count_few}
+use Rattle.table_tool.proofs.PrintedLemmas.{next_count, next_line, rest_are, row_few}
 use Rattle.table_tool.proofs.printing.print_rows.Goals as goal
 
 pub overflow_add-count : goal.overflow_add-count

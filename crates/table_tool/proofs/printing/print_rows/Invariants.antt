@@ -3,8 +3,8 @@ use Rattle.key_types.specs.Columns.{columns_of}
 use Rattle.shard_table.specs.Together.{IsCursorOf, left_in, shard_entries}
 use Rattle.flush_walk.specs.Entries.{row_count}
 use Rattle.flush_walk.specs.TableEntries.{AreTableEntries}
-use Rattle.table_tool.specs.Lines.{HoldsText}
-use Rattle.table_tool.specs.Printed.{entry_lines}
+use Rattle.row_text.specs.Lines.{HoldsText}
+use Rattle.row_text.specs.Printed.{entry_lines}
 use Rattle.table_tool.proofs.printing.print_rows.Given as goal
 
 abbrev pub invariant-entries : goal.invariant-entries

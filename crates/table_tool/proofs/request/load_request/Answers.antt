@@ -1,4 +1,4 @@
-use Rattle.std.proofs.Common.{◌≡◌, Err, rules, subst}
+use Rattle.std.proofs.Common.{◌≡◌, Err, rules}
 use Rattle.std.specs.String.{string_bytes}
 use Rattle.table_tool.proofs.RequestLemmas.{refused_load, short_schema}
 use Rattle.table_tool.proofs.request.load_request.Goals as goal
@@ -14,6 +14,6 @@ returns-clause-can c = record {
   schema = short_schema c.as_str.result.now _ c.in_ok-schema.ensures;
   bounds = (c.as_str-2.result.now, c.in_ok-bounds.ensures);
   cells = c.requires.0;
-  some = c.requires.1;
-  eight = c.requires.2;
+  some = c.requires.1.0;
+  eight = c.requires.1.1;
 }
