@@ -40,7 +40,10 @@ fn turn<K: Store>(
 {
     match table.next_entry(store, scan) {
         Ok(Some(entry)) => match lines.put(alloc, table.schema(), &entry) {
-            Ok(()) => Ok(true),
+            Ok(()) => {
+                scan.reuse(entry);
+                Ok(true)
+            }
             Err(e) => Err(ScanError::from(e)),
         },
         Ok(None) => Ok(false),

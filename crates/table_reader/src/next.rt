@@ -20,6 +20,7 @@ pub fn next_of<K: Store>(
     store: &mut K,
     file: FileId,
     walk: &mut Walker,
+    spare: &mut Option<EntryStrings>,
 ) -> Result<Option<EntryStrings>, DataError>
     ensures gives { IfSome (K.files store.old) (λ m. Continues (bytes_of m file) walk.old.window
         → Continues (bytes_of m file) walk.new.window
@@ -36,7 +37,7 @@ pub fn next_of<K: Store>(
 {
     'steps: loop {
         walk.window.fill(store, file)?;
-        match walk.step(alloc, schema)? {
+        match walk.step(alloc, schema, spare)? {
             Met::Passed => {}
             Met::Given(entry) => return Ok(Some(entry)),
             Met::Done => return Ok(None),

@@ -32,6 +32,8 @@ use table_files::data_id;
 #[derive(Drop)]
 pub struct Scan {
     walk: Walker,
+    /// An entry whose buffers the next one may have.
+    spare: Option<EntryStrings>,
 }
 
 impl Model for Scan {
@@ -40,6 +42,15 @@ impl Model for Scan {
     ghost Value = { Scanning };
 
     ghost view = { λ s. scanning_of s.walk };
+}
+
+impl Scan {
+    /// Takes back an entry that isn't wanted any more: the next one is put together in its buffers.
+    pub fn reuse(&mut self, entry: EntryStrings)
+        ensures { self.new ≡ self.old }
+    {
+        self.spare = Some(entry);
+    }
 }
 
 /// A walk at a place of Data.db, of which nothing was read.
@@ -138,7 +149,7 @@ impl OpenTable {
     {
         let start = self.seek(store, from.as_ref())?;
         let walk = begin(self.alloc, store, self.generation, from, to, start)?;
-        Ok(Scan { walk })
+        Ok(Scan { walk, spare: None })
     }
 
     /// The next entry of a scan that this table began; `None` where its range ends, or Data.db. After an error the scan
@@ -163,7 +174,14 @@ impl OpenTable {
         ensures fault { result ≡ Err TableFault.StoreFault → Rose (K.faults store.old) (K.faults store.new) }
     {
         let file = data_id(self.generation);
-        let found = next_of(self.alloc, &self.schema, store, file, &mut scan.walk)?;
+        let found = next_of(
+            self.alloc,
+            &self.schema,
+            store,
+            file,
+            &mut scan.walk,
+            &mut scan.spare,
+        )?;
         Ok(found)
     }
 }

@@ -98,18 +98,42 @@ fn is_static_above(to: &Option<BoundString>, partition: &[u8], static_part: Opti
     }
 }
 
-/// A copy of a string.
-fn copied(alloc: Global, string: &[u8]) -> Result<ByteList, NoMemory>
+/// A copy of a string, in a buffer whose bytes aren't wanted any more.
+fn copied(buffer: ByteList, string: &[u8]) -> Result<ByteList, NoMemory>
     ensures { IfOk result (λ copy. copy ≡ string.now) }
 {
-    let mut copy = ByteList::new(alloc);
+    let mut copy = buffer;
+    copy.truncate(0);
     copy.extend(string)?;
     Ok(copy)
 }
 
-/// The entry of a row.
+/// Three buffers: those of an entry that isn't wanted any more, where there is one.
+fn buffers(alloc: Global, spare: Option<EntryStrings>) -> (ByteList, ByteList, ByteList) {
+    let Some(
+        EntryStrings {
+            partition,
+            clustering,
+            value,
+        },
+    ) = spare
+    else {
+        return (
+            ByteList::new(alloc),
+            ByteList::new(alloc),
+            ByteList::new(alloc),
+        );
+    };
+    match clustering {
+        Some(within) => (partition, within, value),
+        None => (partition, ByteList::new(alloc), value),
+    }
+}
+
+/// The entry of a row, in the buffers of a spare one.
 fn row_entry(
     alloc: Global,
+    spare: Option<EntryStrings>,
     partition: &[u8],
     clustering: &[u8],
     value: &[u8],
@@ -117,10 +141,11 @@ fn row_entry(
     ensures { IfOk result (λ entry. entry
         ≡ record { partition = partition.now; clustering = Some clustering.now; value = value.now }) }
 {
+    let (key, within, text) = buffers(alloc, spare);
     Ok(EntryStrings {
-        partition: copied(alloc, partition)?,
-        clustering: Some(copied(alloc, clustering)?),
-        value: copied(alloc, value)?,
+        partition: copied(key, partition)?,
+        clustering: Some(copied(within, clustering)?),
+        value: copied(text, value)?,
     })
 }
 
@@ -130,9 +155,9 @@ fn static_entry(alloc: Global, partition: &[u8], value: &[u8]) -> Result<EntrySt
         ≡ record { partition = partition.now; clustering = None; value = value.now }) }
 {
     Ok(EntryStrings {
-        partition: copied(alloc, partition)?,
+        partition: copied(ByteList::new(alloc), partition)?,
         clustering: None,
-        value: copied(alloc, value)?,
+        value: copied(ByteList::new(alloc), value)?,
     })
 }
 
@@ -211,7 +236,12 @@ impl Walker {
     }
 
     /// Goes over the row that stands next, or over the end of the partition.
-    fn go_on(&mut self, alloc: Global, schema: &Schema) -> Result<Met, DataError>
+    fn go_on(
+        &mut self,
+        alloc: Global,
+        schema: &Schema,
+        spare: &mut Option<EntryStrings>,
+    ) -> Result<Met, DataError>
         requires full { HasEnough self.old.window }
         requires inside { ¬ (self.old.inside ≡ false) }
         ensures { StepIs (columns_of schema.now) self.old self.new result }
@@ -235,19 +265,24 @@ impl Walker {
             self.window.pass(count);
             return Ok(Met::Passed);
         }
-        let entry = row_entry(alloc, key, row.clustering, row.value)?;
+        let entry = row_entry(alloc, spare.take(), key, row.clustering, row.value)?;
         self.window.pass(count);
         self.from = None;
         Ok(Met::Given(entry))
     }
 
-    /// Goes over what stands next.
-    pub fn step(&mut self, alloc: Global, schema: &Schema) -> Result<Met, DataError>
+    /// Goes over what stands next. The entry of a row is put together in the buffers of a spare one, where there is one.
+    pub fn step(
+        &mut self,
+        alloc: Global,
+        schema: &Schema,
+        spare: &mut Option<EntryStrings>,
+    ) -> Result<Met, DataError>
         requires full { HasEnough self.old.window }
         ensures { StepIs (columns_of schema.now) self.old self.new result }
     {
         if self.inside {
-            self.go_on(alloc, schema)
+            self.go_on(alloc, schema, spare)
         } else {
             self.enter(alloc, schema)
         }

@@ -213,7 +213,7 @@ pub record LoadEnds (asked : LoadAsked) (before after : Outside) (result : Statu
   pub unread : result ≡ status.Exists → KeepsSource before after
   -- BadLine and TooLarge come only as the script gives them
   pub refused : IfSome before.left (λ bytes. Refused (loading asked bytes) result)
-  -- Full comes only where a shard has no room, at the least such line of the first such batch
+  -- Full comes only where a shard has no room, at the least such line of its batch
   pub full : IfSome before.left (λ bytes. (line : ℕ) → result ≡ status.Full line → FillsShards asked (loading asked bytes) line)
   -- what was written: the answers to the gets are legal, and where it is Ok or the ok line was cut off the files stand
   pub written : IfSome before.left (λ bytes. WhereTold before.written after.written

@@ -1,0 +1,11 @@
+use Rattle.std.proofs.Common.{◌≡◌, Ok, rules, subst, sym, true}
+use Rattle.key_types.specs.Columns.{columns_of}
+use Rattle.table_reader.specs.Ranges.{Scanning}
+use Rattle.scan_tool.specs.Steps.{TurnIs}
+use Rattle.scan_tool.proofs.scanning.turn.Goals as goal
+
+pub returns-in-Ok-clause-turn : goal.returns-in-Ok-clause-turn
+returns-in-Ok-clause-turn g c =
+    let columns = columns_of c.args.table.now.schema in
+    let turned : TurnIs columns (g.K.Store.files c.args.store.now) c.args.table.now.generation c.args.scan.now c.next_entry.new.scan c.args.lines.now c.put.new.self (Ok true) = search rules in
+    subst (λ (s : Scanning). TurnIs columns (g.K.Store.files c.args.store.now) c.args.table.now.generation c.args.scan.now s c.args.lines.now c.put.new.self (Ok true)) (sym c.reuse.ensures) turned
