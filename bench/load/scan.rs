@@ -2,13 +2,11 @@
 
 use crate::peer::schema::ValueType;
 use crate::peer::{Ending, LONGEST_KEY, Schema, put_key, put_value_literal};
+use crate::schema_file::schema_in;
 use crate::window::Window;
-use crate::{BLOCK, DATA, SCHEMA, schema_text, store_fault};
+use crate::{BLOCK, DATA, SCHEMA, store_fault};
 use std::fs::File;
 use std::io::{self, Write};
-
-/// The greatest length of the schema's text in Schema.txt, in bytes.
-const LONGEST_CANONICAL: usize = 4000;
 
 /// What is expected next in the file.
 enum Next {
@@ -140,13 +138,6 @@ fn damaged(at: u64, next: &Next) -> Ending {
         Next::Static(_) | Next::Row => "row",
     };
     Ending(7, format!("error: damaged Data at {at}: bad {what}\n"))
-}
-
-/// The schema of a whole Schema.txt.
-fn schema_in(bytes: &[u8]) -> Option<Schema> {
-    let text = std::str::from_utf8(bytes).ok()?;
-    let schema = Schema::read(text.lines().nth(1)?.as_bytes(), LONGEST_CANONICAL)?;
-    (schema_text(&schema) == text).then_some(schema)
 }
 
 /// Does `scan`, and leaves the last of the text before the last line in `text`.
