@@ -1,6 +1,8 @@
 //! Tries in pages in plain Rust: the peer of the proved packer and parser, of the same design. Words: `pack COUNT` packs so many ascending keys of 6 to 20
 //! bytes and prints the length and the root; `find COUNT` finds each of them in the bytes besides and prints how many were found.
 
+// Finds go by single bytes, and take no payload.
+#[allow(dead_code)]
 #[path = "../peer/node_view.rs"]
 mod node_view;
 #[path = "../peer/nodes.rs"]

@@ -3,7 +3,7 @@
 
 mod encoding;
 mod literal;
-mod reader;
+pub mod reader;
 mod row_text;
 pub mod schema;
 pub mod script;

@@ -54,6 +54,24 @@ impl View<'_> {
         }
     }
 
+    pub fn payload(&self) -> &[u8] {
+        &self.bytes[self.body()..self.body() + self.payload_len()]
+    }
+
+    fn byte(&self, place: usize) -> u8 {
+        match self.shape {
+            Shape::Short => self.bytes[(4 + self.width) / 8],
+            Shape::Sparse => self.bytes[2 + place],
+            Shape::Dense => self.bytes[1] + place as u8,
+            _ => self.bytes[1],
+        }
+    }
+
+    /// The children by ascending bytes, with their distances.
+    pub fn children(&self) -> impl Iterator<Item = (u8, u64)> + '_ {
+        (0..self.places).map(|place| (self.byte(place), self.distance(place))).filter(|child| child.1 > 0)
+    }
+
     fn in_order(&self) -> bool {
         match self.shape {
             Shape::Sparse => self.places > 0 && self.bytes[2..2 + self.places].windows(2).all(|pair| pair[0] < pair[1]),

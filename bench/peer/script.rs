@@ -55,7 +55,7 @@ pub fn read_all(source: &mut impl Read) -> io::Result<Vec<u8>> {
 }
 
 /// Appends the string of a list of components to `string`.
-fn read_string(kinds: &[Type], reader: &mut Reader, string: &mut Vec<u8>) -> Option<()> {
+pub fn read_string(kinds: &[Type], reader: &mut Reader, string: &mut Vec<u8>) -> Option<()> {
     let start = string.len();
     read_each(kinds, reader, |kind, value| {
         string.push(SEPARATOR);
