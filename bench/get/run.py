@@ -1,7 +1,8 @@
 #!/usr/bin/env python3
 """Compares a `get` and a `scan` of 100 rows with a plain Rust program that reads the same files the same way, and the `get` with sqlite3, over the three tables of
 bench/keys.py of 500,000 put lines. Each run is a process of its own, start and all; the programs run in turn. A `get` of at most 1.2 times the plain program's
-processor time and half of sqlite3's is wanted, and a `scan` of at most 1.2 times the plain program's. Ends with 1 where answers differ."""
+processor time and half of sqlite3's is wanted, and a `scan` of at most 1.2 times the plain program's. The two programs are linked differently, so what they take
+beyond a start, that of words which are refused, is told too. Ends with 1 where answers differ."""
 import os
 import random
 import re
@@ -33,16 +34,16 @@ class Times:
         self.wall = []
         self.processor = []
 
-    def run(self, words, folder):
-        """Runs the program once, and gives what it prints."""
+    def run(self, words, folder, status=0):
+        """Runs the program once, which ends with the status, and gives what it prints."""
         began = time.perf_counter()
         child = subprocess.Popen(words, stdin=subprocess.DEVNULL, stdout=subprocess.PIPE, cwd=folder)
         text = child.stdout.read()
-        _, status, usage = os.wait4(child.pid, 0)
+        _, ended, usage = os.wait4(child.pid, 0)
         self.wall.append(1e3 * (time.perf_counter() - began))
         child.stdout.close()
-        child.returncode = os.waitstatus_to_exitcode(status)
-        if child.returncode != 0:
+        child.returncode = os.waitstatus_to_exitcode(ended)
+        if child.returncode != status:
             sys.exit("%s ended with status %d" % (" ".join(words), child.returncode))
         self.processor.append(1e3 * (usage.ru_utime + usage.ru_stime))
         return text.decode("utf-8")
@@ -90,9 +91,18 @@ class Table:
             return ["sqlite3", "table.db", "select value from rows where " + self.keys.where % key]
         return [self.programs[name], "get", self.keys.key % key]
 
+    def start(self, times):
+        """Starts each of the two programs once, with words that are refused."""
+        for name, program in self.programs.items():
+            times[name].run([program, "get"], self.folder, 1)
+
+    def starts(self):
+        return {name: Times() for name in self.programs}
+
     def gets(self):
-        """Each program's times over all keys; ends where an answer differs."""
+        """Each program's times over all keys, and those of its start; ends where an answer differs."""
         times = {name: Times() for name in list(self.programs) + ["sqlite3"] * self.has_sqlite}
+        starts = self.starts()
         absent = 0
         for key in self.some_keys():
             answers = {name: of.run(self.get_words(name, key), self.folder) for name, of in times.items()}
@@ -102,8 +112,9 @@ class Table:
             if len(set(answers.values())) != 1:
                 sys.exit("the answers for %s differ: %s" % (self.keys.key % key, answers))
             absent += answers["proved"] == "none\n"
+            self.start(starts)
         print("get of %d keys, %d of them absent" % (GETS, absent))
-        return times
+        return times, starts
 
     def bounds(self):
         """The words of a scan of so many rows in the middle."""
@@ -119,15 +130,24 @@ class Table:
         words, lines = self.bounds()
         wanted = "".join(line + "\n" for line in lines + ["rows %d" % ROWS])
         times = {name: Times() for name in self.programs}
+        starts = self.starts()
         for _ in range(SCANS):
             for name, of in times.items():
                 if of.run([self.programs[name]] + words, self.folder) != wanted:
                     sys.exit("%s prints other text for %s" % (name, words))
+            self.start(starts)
         print("scan of %d rows" % ROWS)
-        return times, words
+        return times, starts, words
 
 
-def print_times(times):
+def print_beyond(times, starts):
+    """Tells what each of the two programs takes beyond its start, by the medians of processor times."""
+    beyond = {name: statistics.median(times[name].processor) - statistics.median(of.processor) for name, of in starts.items()}
+    told = ", ".join("%s %.3f ms" % each for each in beyond.items())
+    print("beyond a start: %s (%.2f times)" % (told, beyond["proved"] / beyond["plain"]))
+
+
+def print_times(times, starts):
     for name, of in times.items():
         print("%-8s %s" % (name, of.row()))
     for name, of in times.items():
@@ -136,6 +156,7 @@ def print_times(times):
         print("proved to %s: %s" % (name, times["proved"].ratio(of)))
         if min(times["proved"].processor) > WANTED[name] * min(of.processor):
             print("over the wanted %.2f of %s's time" % (WANTED[name], name))
+    print_beyond(times, starts)
     print_busy()
 
 
@@ -166,9 +187,9 @@ def compare_keys(keys, program):
         table = Table(keys, program, at("plain.program"), at)
         if not table.has_sqlite:
             print("sqlite3 is missing, so it isn't compared")
-        print_times(table.gets())
-        times, words = table.scans()
-        print_times(times)
+        print_times(*table.gets())
+        times, starts, words = table.scans()
+        print_times(times, starts)
         print_reads(table, words, at)
 
 
