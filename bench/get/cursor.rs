@@ -1,8 +1,8 @@
 //! Files, read in pieces of 4,096 bytes: pages at their places, and bytes from a place on.
 
 use crate::nodes::PAGE;
-use crate::store_fault;
 use crate::peer::Ending;
+use crate::store_fault;
 use std::fs::File;
 use std::os::unix::fs::FileExt;
 

@@ -7,8 +7,7 @@ import sys
 HERE = os.path.dirname(os.path.abspath(__file__))
 sys.path.insert(0, os.path.join(HERE, ".."))
 from compare import compare
-
-LINES = 500_000
+from keys import CELLS, LINES
 
 
 def script(path):
@@ -20,4 +19,4 @@ def script(path):
 
 
 WORDS = ["list", "--schema", "(int; ; text)"]
-compare("sigvhal", WORDS, os.path.join(HERE, "plain.rs"), WORDS, script)
+compare("sigvhal", WORDS + ["--cells", str(CELLS)], os.path.join(HERE, "plain.rs"), WORDS, script)

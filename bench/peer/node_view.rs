@@ -20,7 +20,6 @@ pub struct View<'a> {
 }
 
 /// Why no node begins there.
-#[derive(Debug)]
 pub enum Refusal {
     PastPage,
     BadOrder,
