@@ -1,8 +1,9 @@
 #!/usr/bin/env python3
 """Compares a `get` and a `scan` of 100 rows with a plain Rust program that reads the same files the same way, and the `get` with sqlite3, over the three tables of
 bench/keys.py of 500,000 put lines. Each run is a process of its own, start and all; the programs run in turn. A `get` of at most 1.2 times the plain program's
-processor time and half of sqlite3's is wanted, and a `scan` of at most 1.2 times the plain program's. The two programs are linked differently, so what they take
-beyond a start, that of words which are refused, is told too. Ends with 1 where answers differ."""
+processor time and half of sqlite3's is wanted, and a `scan` of at most 1.2 times the plain program's. The two programs are linked differently, so what a `scan`
+takes beyond a start, that of words which are refused, is told too; a `get` takes too little beyond one to be told by time. With the word --instructions the
+instructions of a run are counted by valgrind. Ends with 1 where answers differ."""
 import os
 import random
 import re
@@ -15,7 +16,7 @@ import time
 
 HERE = os.path.dirname(os.path.abspath(__file__))
 sys.path.insert(0, os.path.join(HERE, ".."))
-from compare import build_plain, measured, print_busy, program_of
+from compare import build_plain, instructions, measured, print_busy, program_of
 from keys import CELLS, Numbers, Types, Wide, sqlite_calls, write_puts
 
 GETS = 200
@@ -96,13 +97,9 @@ class Table:
         for name, program in self.programs.items():
             times[name].run([program, "get"], self.folder, 1)
 
-    def starts(self):
-        return {name: Times() for name in self.programs}
-
     def gets(self):
-        """Each program's times over all keys, and those of its start; ends where an answer differs."""
+        """Each program's times over all keys; ends where an answer differs."""
         times = {name: Times() for name in list(self.programs) + ["sqlite3"] * self.has_sqlite}
-        starts = self.starts()
         absent = 0
         for key in self.some_keys():
             answers = {name: of.run(self.get_words(name, key), self.folder) for name, of in times.items()}
@@ -112,9 +109,8 @@ class Table:
             if len(set(answers.values())) != 1:
                 sys.exit("the answers for %s differ: %s" % (self.keys.key % key, answers))
             absent += answers["proved"] == "none\n"
-            self.start(starts)
         print("get of %d keys, %d of them absent" % (GETS, absent))
-        return times, starts
+        return times
 
     def bounds(self):
         """The words of a scan of so many rows in the middle."""
@@ -127,10 +123,11 @@ class Table:
         return ["scan", "--from", ends[0], "--to", ends[1]], lines[middle : middle + ROWS]
 
     def scans(self):
+        """Each program's times, those of its start, and the words of the scan; ends where a text differs."""
         words, lines = self.bounds()
         wanted = "".join(line + "\n" for line in lines + ["rows %d" % ROWS])
         times = {name: Times() for name in self.programs}
-        starts = self.starts()
+        starts = {name: Times() for name in self.programs}
         for _ in range(SCANS):
             for name, of in times.items():
                 if of.run([self.programs[name]] + words, self.folder) != wanted:
@@ -147,7 +144,7 @@ def print_beyond(times, starts):
     print("beyond a start: %s (%.2f times)" % (told, beyond["proved"] / beyond["plain"]))
 
 
-def print_times(times, starts):
+def print_times(times):
     for name, of in times.items():
         print("%-8s %s" % (name, of.row()))
     for name, of in times.items():
@@ -156,7 +153,6 @@ def print_times(times, starts):
         print("proved to %s: %s" % (name, times["proved"].ratio(of)))
         if min(times["proved"].processor) > WANTED[name] * min(of.processor):
             print("over the wanted %.2f of %s's time" % (WANTED[name], name))
-    print_beyond(times, starts)
     print_busy()
 
 
@@ -170,13 +166,20 @@ def reads(words, folder, at):
     return sum(map(int, rows))
 
 
-def print_reads(table, words, at):
-    if shutil.which("strace") is None:
+def print_counts(table, words, at):
+    """Tells how many reads and instructions a get and a scan take, where these can be counted and are asked for."""
+    open(at("empty"), "wb").close()
+    has_strace = shutil.which("strace") is not None
+    if not has_strace:
         print("strace is missing, so reads aren't counted")
-        return
     for what, ends in [("get", ["get", table.keys.key % table.some_keys()[1]]), ("scan of %d rows" % ROWS, words)]:
-        told = ["%s %s" % (name, reads([program] + ends, table.folder, at)) for name, program in table.programs.items()]
-        print("reads of a %s, those of a start among them: %s" % (what, ", ".join(told)))
+        calls = {name: [program] + ends for name, program in table.programs.items()}
+        if has_strace:
+            told = ["%s %s" % (name, reads(call, table.folder, at)) for name, call in calls.items()]
+            print("reads of a %s, those of a start among them: %s" % (what, ", ".join(told)))
+        if "--instructions" in sys.argv:
+            told = ["%s %s" % (name, instructions(call, at("empty"), table.folder)) for name, call in calls.items()]
+            print("instructions of a %s, those of a start among them: %s" % (what, ", ".join(told)))
 
 
 def compare_keys(keys, program):
@@ -187,10 +190,11 @@ def compare_keys(keys, program):
         table = Table(keys, program, at("plain.program"), at)
         if not table.has_sqlite:
             print("sqlite3 is missing, so it isn't compared")
-        print_times(*table.gets())
+        print_times(table.gets())
         times, starts, words = table.scans()
-        print_times(times, starts)
-        print_reads(table, words, at)
+        print_times(times)
+        print_beyond(times, starts)
+        print_counts(table, words, at)
 
 
 def main():
