@@ -1,8 +1,10 @@
 """The tables that comparisons load: their schemas, random keys, scripts of puts, and the same in sqlite3."""
+import os
 import random
 import string
 
-LINES = 500_000
+# Another number is for a try.
+LINES = int(os.environ.get("BENCH_LINES", "500000"))
 # Cells enough for all of them in one shard.
 CELLS = 4_194_304
 

@@ -1,5 +1,5 @@
 #!/usr/bin/env python3
-"""Runs the examples of README.md and docs/COMMANDS.md, and looks at the bytes that docs/FORMATS.md shows.
+"""Runs the examples of README.md and docs/COMMANDS.md, and the Python program of docs/FORMATS.md.
 
     scripts/examples.py PROGRAM        PROGRAM is the built program, crates/sigvhal/out/sigvhal
 
@@ -10,8 +10,7 @@ It ends with 0 exactly where an example's last line is no line of an error.
 Blocks are what stands between lines that aren't indented. Each is run in order in a fresh folder that has `examples/` in it. But a block whose first
 command is `get` or `scan` reads a table and makes none: it goes on in the folder of the first block of its document with a `load`, whatever its heading.
 
-docs/FORMATS.md shows the bytes of files, each time under a comment that names a table of `FORMATS` below, its file and the place from which the bytes stand.
-A file but Data.db is shown to its end. Its Python program is run over the table of the typed keys, and has to print what `scan` prints but the last line.
+The Python program of docs/FORMATS.md is run over the table of the typed keys, and has to print what `scan` prints but the last line. (scripts/formats.py looks at the bytes that are shown there.)
 
 Prints a line for each example that differs, with what was expected and what came, and ends with 1 where there is one.
 """
@@ -92,60 +91,7 @@ def check(program, name, folders):
     return count, wrong
 
 
-# ---- docs/FORMATS.md: the schemas and the scripts of the tables whose files it shows
-
-FORMATS = [
-    ("(int; ; text)", "put (1) () = 'a'\n"),
-    ("(int; int; text; text)", "put (1) static = 's'\nput (1) (2) = 'a'\n"),
-    ("(int; int; blob)", "".join(f"put (1) ({i}) = 0x{'ab' * 1000}\n" for i in range(40))),
-]
-
-
-def shown():
-    """The bytes that docs/FORMATS.md shows behind a line `<!-- table N, FILE, from PLACE -->`, in a block or in a table of places: line, N, file, place, bytes."""
-    found, wanted = [], None
-    for number, line in enumerate(open(os.path.join(TOP, "docs/FORMATS.md"), encoding="utf-8"), 1):
-        mark = re.search(r"<!-- table (\d), ([\w.-]+), from (\d+|end) -->", line)
-        if mark:
-            wanted = [number, int(mark.group(1)), mark.group(2), mark.group(3), b""]
-            found.append(wanted)
-        elif line.startswith("    ") and wanted:
-            wanted[4] += numbers(line)
-        elif re.match(r"\| \d+ \| `", line) and wanted:
-            wanted[4] += numbers(line.split("`")[1])
-        elif line.strip() and line[0] not in " |":
-            wanted = None
-    return found
-
-
-def numbers(line):
-    """The bytes at the front of a line: pairs of digits, and `00 .. 04` for a number in eight bytes."""
-    bytes_, words = b"", line.split()
-    for i, word in enumerate(words):
-        if word == "..":
-            bytes_ += bytes(6)
-        elif re.fullmatch(r"[0-9A-F]{2}", word):
-            bytes_ += bytes([int(word, 16)])
-        else:
-            break
-    return bytes_
-
-
-def formats(program, folders):
-    made, wrong, blocks_shown = {}, [], shown()
-    for line, number, name, place, expected in blocks_shown:
-        if number not in made:
-            folder = made[number] = fresh(folders)
-            schema, script = FORMATS[number]
-            with open(os.path.join(folder, "script"), "w", encoding="utf-8") as out:
-                out.write(script)
-            run(program, ["load", "--schema", schema], folder, "script")
-        data = open(os.path.join(made[number], name), "rb").read()
-        at = len(data) - len(expected) if place == "end" else int(place)
-        whole = name.endswith("Data.db") or at + len(expected) == len(data)
-        if data[at:at + len(expected)] != expected or not whole:
-            wrong.append(f"docs/FORMATS.md:{line}: {name}\n  expected {expected.hex(' ')}\n  is       {data[at:at + max(len(expected), 64)].hex(' ')}")
-    return len(blocks_shown), wrong
+# ---- docs/FORMATS.md
 
 
 def reader(program, folders):
@@ -164,8 +110,8 @@ def main():
         sys.exit(__doc__)
     program, folders = os.path.abspath(sys.argv[1]), []
     try:
-        results = [check(program, name, folders) for name in ("README.md", "docs/COMMANDS.md")] 
-        results += [formats(program, folders), reader(program, folders)]
+        results = [check(program, name, folders) for name in ("README.md", "docs/COMMANDS.md")]
+        results += [reader(program, folders)]
     finally:
         for folder in folders:
             shutil.rmtree(folder)

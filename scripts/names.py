@@ -1,5 +1,5 @@
 #!/usr/bin/env python3
-"""Looks up the names that README.md and docs/*.md use, and compares the lists of crates.
+"""Looks up the names that README.md and docs/*.md use.
 
     scripts/names.py
 
@@ -11,9 +11,7 @@ Of what stands in backquotes outside of blocks of code these are looked up, and 
 - a name with `::`, as `Image::new`: a file of one crate has both.
 
 In docs/DEFINITIONS.md the names of a row stand in the crates whose files it names.
-In docs/PROMISES.md each row's calls and clauses stand in the sources of its section's crate, its last column names files of that crate's specs/, and each public law has a row.
-
-The crates of docs/ARCHITECTURE.md's table are those of crates.txt, in the same order; these are the folders of crates/; and each dependency of a crate on another stands above it.
+In docs/PROMISES.md each row's calls and clauses stand in the sources of its section's crate, its fourth column names files of that crate's specs/, and each public law has a row. (scripts/closure.py counts the last one.)
 
 Prints a line for each that isn't so, and ends with 1 where there is one.
 """
@@ -31,8 +29,15 @@ def read(path):
 
 
 def all_files():
-    done = subprocess.run(["git", "ls-files", "-co", "--exclude-standard"], cwd=TOP, stdout=subprocess.PIPE, check=True)
-    return [path for path in done.stdout.decode().split("\n") if path and os.path.exists(os.path.join(TOP, path))]
+    """The files of the repository: what git has and doesn't ignore, and without git all but what is built."""
+    done = subprocess.run(["git", "ls-files", "-co", "--exclude-standard"], cwd=TOP, stdout=subprocess.PIPE, stderr=subprocess.DEVNULL)
+    if done.returncode == 0:
+        return [path for path in done.stdout.decode().split("\n") if path and os.path.exists(os.path.join(TOP, path))]
+    found = []
+    for folder, folders, names in os.walk(TOP):
+        folders[:] = [name for name in folders if name not in (".git", "out", "build", "__pycache__")]
+        found += [os.path.relpath(os.path.join(folder, name), TOP) for name in names]
+    return found
 
 
 def code_of(path):
@@ -161,10 +166,10 @@ def promises(code):
         if not line.startswith("| ") or line.startswith("| What is promised"):
             continue
         cells = [cell.strip() for cell in line.strip("|").split(" | ")]
-        if len(cells) != 4 or crate is None:
-            yield f"{path}:{number}: not a row of four cells in a section of a crate"
+        if len(cells) != 5 or crate is None:
+            yield f"{path}:{number}: not a row of five cells in a section of a crate"
             continue
-        promise, clause, call, files = cells
+        promise, clause, call, files, _ = cells
         called, _, sources = call.partition("; ")
         sources = [f"crates/{crate}/src/{source}" for source in sources.split(", ")]
         for source in sources:
@@ -198,44 +203,11 @@ def promises(code):
                     yield f"{path}: `{law}` of `{one}` has no row"
 
 
-# ---- crates
-
-
-def crates(code):
-    listed = []
-    for number, line in enumerate(read("crates.txt").split("\n"), 1):
-        if not line.strip() or line.startswith("#"):
-            continue
-        head, _, needs = line.partition(":")
-        crate = head.split()[0]
-        for need in needs.split():
-            if need in code.crates and need not in listed:
-                yield f"crates.txt:{number}: `{crate}` needs `{need}`, which doesn't stand above it"
-            if need == crate:
-                yield f"crates.txt:{number}: `{crate}` needs itself"
-        if crate in listed:
-            yield f"crates.txt:{number}: `{crate}` stands twice"
-        listed.append(crate)
-    for crate in sorted(set(listed) ^ set(code.crates)):
-        yield f"crates.txt: `{crate}` is " + ("no folder of crates/" if crate in listed else "missing")
-    table = re.findall(r"(?m)^\|[^|]*\| `(\w+)` \|", read("docs/ARCHITECTURE.md"))
-    for crate in sorted(set(listed) ^ set(table)):
-        yield f"docs/ARCHITECTURE.md: `{crate}` is " + ("missing in the table" if crate in listed else "not in crates.txt")
-    both = [crate for crate in table if crate in listed]
-    order = [crate for crate in listed if crate in table]
-    for one, other in zip(both, order):
-        if one != other:
-            yield f"docs/ARCHITECTURE.md: the table has `{one}` where crates.txt has `{other}`"
-            break
-    if len(table) != len(set(table)):
-        yield "docs/ARCHITECTURE.md: a crate stands twice in the table"
-
-
 def main():
     if len(sys.argv) != 1:
         sys.exit(__doc__)
     code = Code()
-    wrong = [*documents(code), *definitions(code), *promises(code), *crates(code)]
+    wrong = [*documents(code), *definitions(code), *promises(code)]
     for line in wrong:
         print(line)
     print(f"{len(wrong)} wrong")
