@@ -4,7 +4,8 @@ ghost use Rattle.outside.specs.Causes.{Rose};
 ghost use Rattle.key_types.specs.Columns.{columns_of};
 ghost use Rattle.table_reader.specs.Gets.{Gets, bytes_in};
 ghost use Rattle.table_reader.specs.Opened.{StandsIn};
-ghost use Rattle.table_reader.specs.Reads.{EndsCall};
+ghost use Rattle.table_reader.specs.Reads.{EndsCall, IsAlwaysBounded};
+ghost use Rattle.get_tool.specs.ShowReads.{FindsNamedWithin, FindsWithin, ShowsWithin};
 ghost use Rattle.get_tool.specs.Shown.{Shows, ShowsFound, ShowsIn, ShowsLine};
 
 use crate::asked::{AskedKey, read_key};
@@ -26,6 +27,9 @@ fn value_at<K: Store>(
     ensures value { IfSome (K.files store.old) (λ m. IfSome table.old.footer (λ footer. EndsCall
         (Gets (bytes_in (columns_of table.old.schema) m table.old.generation) footer key.now.partition
         key.now.clustering) result)) }
+    ensures reads { IfSome (K.files store.old) (λ m. IfSome table.old.footer (λ footer. IsAlwaysBounded
+        (bytes_in (columns_of table.old.schema) m table.old.generation) footer key.now.partition key.now.clustering
+        (K.reads store.old) (K.reads store.new))) }
     ensures schema { table.new.schema ≡ table.old.schema }
     ensures files { K.files store.new ≡ K.files store.old }
     ensures later { K.faults store.old ≤ K.faults store.new }
@@ -47,6 +51,8 @@ fn found_at<K: Store>(
     requires stands { StandsIn (K.files store.old) table.old }
     ensures found { IfSome (K.files store.old) (λ m. ShowsFound m table.old.generation
         (columns_of table.old.schema) key.now result) }
+    ensures reads { IfSome (K.files store.old) (λ m. FindsWithin m table.old.generation
+        (columns_of table.old.schema) 66 key.now (K.reads store.old) (K.reads store.new)) }
     ensures schema { table.new.schema ≡ table.old.schema }
     ensures files { K.files store.new ≡ K.files store.old }
     ensures later { K.faults store.old ≤ K.faults store.new }
@@ -72,6 +78,8 @@ fn line_at<K: Store>(
     requires stands { StandsIn (K.files store.old) table.old }
     ensures line { IfSome (K.files store.old) (λ m. ShowsLine m table.old.generation
         (columns_of table.old.schema) key.now result) }
+    ensures reads { IfSome (K.files store.old) (λ m. FindsWithin m table.old.generation
+        (columns_of table.old.schema) 66 key.now (K.reads store.old) (K.reads store.new)) }
     ensures files { K.files store.new ≡ K.files store.old }
     ensures later { K.faults store.old ≤ K.faults store.new }
     ensures fault { result ≡ Err GetError.StoreFault → Rose (K.faults store.old) (K.faults store.new) }
@@ -96,6 +104,8 @@ fn shown_in<K: Store>(
     requires stands { StandsIn (K.files store.old) table.old }
     ensures shows { IfSome (K.files store.old) (λ m. ShowsIn m table.old.generation
         (columns_of table.old.schema) text.now result) }
+    ensures reads { IfSome (K.files store.old) (λ m. FindsNamedWithin m table.old.generation
+        (columns_of table.old.schema) 66 text.now (K.reads store.old) (K.reads store.new)) }
     ensures files { K.files store.new ≡ K.files store.old }
     ensures later { K.faults store.old ≤ K.faults store.new }
     ensures fault { result ≡ Err GetError.StoreFault → Rose (K.faults store.old) (K.faults store.new) }
@@ -115,6 +125,8 @@ pub fn show_value<K: Store>(
     text: &[u8],
 ) -> Result<ByteList, GetError>
     ensures shows { IfSome (K.files store.old) (λ m. Shows m generation text.now result) }
+    ensures reads { IfSome (K.files store.old) (λ m. ShowsWithin m generation text.now
+        (K.reads store.old) (K.reads store.new)) }
     ensures files { K.files store.new ≡ K.files store.old }
     ensures later { K.faults store.old ≤ K.faults store.new }
     ensures fault { result ≡ Err GetError.StoreFault → Rose (K.faults store.old) (K.faults store.new) }

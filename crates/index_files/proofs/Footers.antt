@@ -10,7 +10,7 @@ use Rattle.index_files.specs.Footers.{footer_numbers, AreStrings, IsFooter, IsSo
 
 -- ---- lists that are equal and begin with as many items
 
-same_fronts : (xs ys a b : List ℕ) → length xs ≡ length ys → xs ++ a ≡ ys ++ b → (xs ≡ ys) × (a ≡ b)
+pub same_fronts : (xs ys a b : List ℕ) → length xs ≡ length ys → xs ++ a ≡ ys ++ b → (xs ≡ ys) × (a ≡ b)
 same_fronts [] [] a b n e = (refl, e)
 same_fronts [] (y ∷ ys) a b n e = absurd (omega (arith, n))
 same_fronts (x ∷ xs) [] a b n e = absurd (omega (arith, n))
@@ -20,7 +20,7 @@ same_fronts (x ∷ xs) (y ∷ ys) a b n e =
     let same : xs ≡ ys = rest.0 in
     (cc, rest.1)
 
-same_ends : (xs ys a b : List ℕ) → length a ≡ length b → xs ++ a ≡ ys ++ b → (xs ≡ ys) × (a ≡ b)
+pub same_ends : (xs ys a b : List ℕ) → length a ≡ length b → xs ++ a ≡ ys ++ b → (xs ≡ ys) × (a ≡ b)
 same_ends xs ys a b n e = same_fronts xs ys a b (omega (arith, n, length-append xs a, length-append ys b, ap length e)) e
 
 -- ---- two strings
@@ -60,7 +60,7 @@ same_strings bytes from one two first last a b =
 
 -- ---- footers
 
-grouped : (trie a b end : List ℕ) → trie ++ (a ++ (b ++ end)) ≡ (trie ++ (a ++ b)) ++ end
+pub grouped : (trie a b end : List ℕ) → trie ++ (a ++ (b ++ end)) ≡ (trie ++ (a ++ b)) ++ end
 grouped trie a b end = ap (λ l. trie ++ l) (sym (append_assoc a b end)) ∙ sym (append_assoc trie (a ++ b) end)
 
 -- what a footer says of the last bytes

@@ -135,7 +135,7 @@ size_told None file size n is e = tt
 size_told (Some m) file size n is e = e ∙ size_is (map.get m file) size is
 
 -- the last bytes, and the place where they begin
-record IsTail (file : List ℕ) (start : ℕ) (tail : List ℕ) : Type 0 where
+pub record IsTail (file : List ℕ) (start : ℕ) (tail : List ℕ) : Type 0 where
   pub before : length (take start file) ≡ start
   pub joined : take start file ++ tail ≡ file
   pub enough : (start ≡ 0) ⊎ (2076 ≤ length tail)
@@ -144,7 +144,7 @@ enough : (start size count : ℕ) → start ≡ size - 2076 → count ≡ size -
 enough zero size count s n = inl refl
 enough (suc k) size count s n = inr (omega (arith, s, n))
 
-tail_of : (file : List ℕ) (size start : ℕ) (tail : List ℕ) → size ≡ length file → start ≡ size - 2076 → tail ≡ take 2076 (drop start file) → IsTail file start tail
+pub tail_of : (file : List ℕ) (size start : ℕ) (tail : List ℕ) → size ≡ length file → start ≡ size - 2076 → tail ≡ take 2076 (drop start file) → IsTail file start tail
 tail_of file size start tail n s t =
     let all : tail ≡ drop start file = t ∙ take_all 2076 (drop start file) (omega (arith, n, s, length-drop start file)) in
     record {

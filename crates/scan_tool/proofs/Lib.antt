@@ -4,3 +4,4 @@ mod Lined
 pub mod Named
 mod Scanned
 pub mod Ranged
+pub mod Counting

@@ -35,7 +35,7 @@ use Rattle.scan_tool.proofs.Named.{named_bound, named_some}
 use Rattle.scan_tool.proofs.Pushes.{longer_prefix, told_piece, told_prefix}
 
 -- what is given one behind the other are the first entries that are left
-gives_front : (columns : Columns) (file : List ℕ) (scan last : Scanning) (entries : List EntryStrings) (left : List Entry) → HasLeft columns file scan left → GivesAll columns file scan entries last
+pub gives_front : (columns : Columns) (file : List ℕ) (scan last : Scanning) (entries : List EntryStrings) (left : List Entry) → HasLeft columns file scan left → GivesAll columns file scan entries last
     → (rest : List Entry) × (left ≡ entries_of entries ++ rest) × HasLeft columns file last rest
 gives_front columns file scan last [] left has e = (left, refl, subst (λ (s : Scanning). HasLeft columns file s left) e has)
 gives_front columns file scan last (x ∷ entries) left has (mid, gives, all) =

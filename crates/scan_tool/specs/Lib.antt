@@ -4,3 +4,4 @@ pub mod Given
 pub mod Printing
 pub mod Steps
 pub mod Laws
+pub mod PrintReads

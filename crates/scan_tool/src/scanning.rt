@@ -2,12 +2,15 @@
 ghost use Rattle.std.specs.Prelude.{◌≡◌, ◌≤◌, Err, IfSome, IsSome};
 ghost use Rattle.std.specs.Option.{option_copied};
 ghost use Rattle.outside.specs.Causes.{Rose};
+ghost use Rattle.outside.specs.Files.{bytes_of};
 ghost use Rattle.key_types.specs.Columns.{columns_of};
 ghost use Rattle.key_types.specs.Kinds.{kinds_of};
 ghost use Rattle.row_text.specs.Lines.{HoldsText};
+ghost use Rattle.table_files.specs.Names.{data_id};
 ghost use Rattle.table_reader.specs.Left.{IsBound};
 ghost use Rattle.table_reader.specs.Opened.{StandsIn};
 ghost use Rattle.table_reader.specs.Scans.{IsInFile, ScanStands};
+ghost use Rattle.scan_tool.specs.PrintReads.{EntriesWithin, NamedWithin, PrintsWithin, RangeWithin, TurnsWithin};
 ghost use Rattle.scan_tool.specs.Printing.{Prints, PrintsIn, PrintsRange};
 ghost use Rattle.scan_tool.specs.Steps.{Begun, PrintsEntries, PrintsFrom, TurnIs};
 
@@ -32,6 +35,8 @@ fn turn<K: Store>(
     requires rows { lines.old.rows ≤ scan.old.window.at }
     ensures turn { TurnIs (columns_of table.now.schema) (K.files store.old) table.now.generation scan.old scan.new
         lines.old lines.new result }
+    ensures reads { IfSome (K.files store.old) (λ m. TurnsWithin (columns_of table.now.schema)
+        (bytes_of m (data_id table.now.generation)) scan.old scan.new (K.reads store.old) (K.reads store.new)) }
     ensures stands { ScanStands (K.files store.new) table.now.generation scan.new }
     ensures files { K.files store.new ≡ K.files store.old }
     ensures later { K.faults store.old ≤ K.faults store.new }
@@ -65,6 +70,8 @@ fn print_entries<O: Sink, K: Store>(
     requires fresh { Begun lines.old }
     ensures prints { PrintsEntries (columns_of table.now.schema) (K.files store.old) table.now.generation scan.old
         lines.new (O.written out.old) (O.written out.new) result }
+    ensures reads { IfSome (K.files store.old) (λ m. EntriesWithin (columns_of table.now.schema)
+        (bytes_of m (data_id table.now.generation)) scan.old (K.reads store.old) (K.reads store.new)) }
     ensures files { K.files store.new ≡ K.files store.old }
     ensures store_later { K.faults store.old ≤ K.faults store.new }
     ensures store_fault { result ≡ Err ScanError.StoreFault → Rose (K.faults store.old) (K.faults store.new) }
@@ -97,6 +104,8 @@ fn print_scan<O: Sink, K: Store>(
     requires place { IsInFile (columns_of table.now.schema) scan.old }
     ensures prints { PrintsFrom (columns_of table.now.schema) (K.files store.old) table.now.generation scan.old
         (O.written out.old) (O.written out.new) result }
+    ensures reads { IfSome (K.files store.old) (λ m. EntriesWithin (columns_of table.now.schema)
+        (bytes_of m (data_id table.now.generation)) scan.old (K.reads store.old) (K.reads store.new)) }
     ensures files { K.files store.new ≡ K.files store.old }
     ensures store_later { K.faults store.old ≤ K.faults store.new }
     ensures store_fault { result ≡ Err ScanError.StoreFault → Rose (K.faults store.old) (K.faults store.new) }
@@ -125,6 +134,8 @@ fn print_between<O: Sink, K: Store>(
     requires from { IsBound (columns_of table.old.schema) from }
     ensures prints { Prints (columns_of table.old.schema) (K.files store.old) table.old.generation from to
         (O.written out.old) (O.written out.new) result }
+    ensures reads { IfSome (K.files store.old) (λ m. RangeWithin m table.old.generation
+        (columns_of table.old.schema) 258 from to (K.reads store.old) (K.reads store.new)) }
     ensures files { K.files store.new ≡ K.files store.old }
     ensures store_later { K.faults store.old ≤ K.faults store.new }
     ensures store_fault { result ≡ Err ScanError.StoreFault → Rose (K.faults store.old) (K.faults store.new) }
@@ -153,6 +164,9 @@ fn print_in<O: Sink, K: Store>(
     requires stands { StandsIn (K.files store.old) table.old }
     ensures prints { PrintsIn (columns_of table.old.schema) (K.files store.old) table.old.generation
         (option_copied from.entry) (option_copied to.entry) (O.written out.old) (O.written out.new) result }
+    ensures reads { IfSome (K.files store.old) (λ m. NamedWithin m table.old.generation
+        (columns_of table.old.schema) 258 (option_copied from.entry) (option_copied to.entry)
+        (K.reads store.old) (K.reads store.new)) }
     ensures files { K.files store.new ≡ K.files store.old }
     ensures store_later { K.faults store.old ≤ K.faults store.new }
     ensures store_fault { result ≡ Err ScanError.StoreFault → Rose (K.faults store.old) (K.faults store.new) }
@@ -180,6 +194,8 @@ pub fn print_range<O: Sink, K: Store>(
 ) -> Result<(), ScanError>
     ensures prints { PrintsRange (K.files store.old) generation (option_copied from.entry) (option_copied to.entry)
         (O.written out.old) (O.written out.new) result }
+    ensures reads { IfSome (K.files store.old) (λ m. PrintsWithin m generation (option_copied from.entry)
+        (option_copied to.entry) (K.reads store.old) (K.reads store.new)) }
     ensures files { K.files store.new ≡ K.files store.old }
     ensures store_later { K.faults store.old ≤ K.faults store.new }
     ensures store_fault { result ≡ Err ScanError.StoreFault → Rose (K.faults store.old) (K.faults store.new) }

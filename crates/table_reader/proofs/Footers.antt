@@ -1,11 +1,13 @@
 -- The partition index of files that stand has its footer.
-use Rattle.std.proofs.Common.{◌≡◌, ℕ, ◌+◌, ◌^◌, ◌<◌, List, [], ◌∷◌, ◌++◌, length, inl, inr, arith, ap, length-append, refl, subst, sym}
+use Rattle.std.proofs.Common.{◌≡◌, ℕ, ◌∙◌, ◌+◌, ◌-◌, ◌^◌, ◌<◌, List, [], ◌∷◌, ◌++◌, append_assoc, drop, length, inl, inr, arith, ap, length-append, refl, subst, sym}
+use Rattle.std.proofs.Math.Seq.{drop-append_seam}
 use Rattle.key_types.specs.Columns.{Columns}
 use Rattle.key_decode.specs.Strings.{IsStringOf}
 use Rattle.outside.specs.Files.{bytes_of}
 use Rattle.data_file.specs.Listing.{ArePartitions, Partition, partition_bytes}
 use Rattle.index_files.specs.declared.footer.FooterNumbers.{FooterNumbers}
-use Rattle.index_files.specs.Footers.{footer_numbers}
+use Rattle.index_files.specs.Footers.{IsFooter, footer_numbers}
+use Rattle.length_prefix.specs.Counted.{counted}
 use Rattle.partition_index.specs.Entries.{Numbered, first_string, last_among, last_string}
 use Rattle.partition_index.specs.File.{behind_trie, footer, in_eight}
 use Rattle.table_files.specs.IndexMeaning.{AllLead, IsIndexFile}
@@ -84,3 +86,19 @@ module _ (columns : Columns) (rows : List ℕ) where
 pub footers_stand : FootersStand
 footers_stand files generation columns table stand =
     has_footer columns _ (bytes_of files (partitions_id generation)) stand.held.partitions stand.indexes.numbered stand.held.listed.1 stand.indexes.index stand.indexes.entries
+
+-- ---- a file has one footer
+
+end_is : (file front end : List ℕ) → file ≡ front ++ end → length end ≡ 24 → end ≡ drop (length file - 24) file
+end_is file front end stands count =
+    let place : length file - 24 ≡ length front = omega (arith, ap (λ (l : List ℕ). length l) stands, length-append front end, count) in
+    sym (ap (λ k. drop k file) place ∙ ap (drop (length front)) stands ∙ drop-append_seam front end)
+
+numbers_are : (columns : Columns) (file first last : List ℕ) (numbers : FooterNumbers) → IsFooter columns file first last numbers → numbers ≡ footer_numbers (drop (length file - 24) file)
+numbers_are columns file first last numbers f = f.read ∙ ap footer_numbers (end_is file (f.trie ++ (counted first ++ counted last)) f.end (f.stands ∙ grouped f.trie (counted first) (counted last) f.end) f.count)
+  where
+    grouped : (a b c d : List ℕ) → a ++ (b ++ (c ++ d)) ≡ (a ++ (b ++ c)) ++ d
+    grouped a b c d = simp append_assoc
+
+pub one_footer : (columns : Columns) (file : List ℕ) (one other : FooterNumbers) → HasFooter columns file one → HasFooter columns file other → one ≡ other
+one_footer columns file one other (first, last, f) (first', last', g) = numbers_are columns file first last one f ∙ sym (numbers_are columns file first' last' other g)

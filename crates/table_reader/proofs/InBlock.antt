@@ -106,7 +106,7 @@ module _ (columns : Columns) (key : List ℕ) (base start limit : ℕ) (tail : L
       absurd (none row.clustering row.value (are.0, (rows_bytes rows ++ 0 ∷ tail, sym e ∙ grouped row rows (0 ∷ tail))))
 
   -- the blocks behind a row that doesn't end its block
-  enough_behind : (at : ℕ) (row : Row) (rows : List Row) → AreEnough key start at (row ∷ rows) → base + at + length (row_bytes row.clustering row.value) < limit
+  pub enough_behind : (at : ℕ) (row : Row) (rows : List Row) → AreEnough key start at (row ∷ rows) → base + at + length (row_bytes row.clustering row.value) < limit
       → AreEnough key start (at + length (row_bytes row.clustering row.value)) rows
   enough_behind at row [] enough inside = tt
   enough_behind at row (next ∷ rows) enough inside =

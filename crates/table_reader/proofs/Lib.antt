@@ -14,11 +14,15 @@ pub mod Seeks
 pub mod Windows
 pub mod ScanSteps
 pub mod Giving
+pub mod Going
+pub mod Nearing
 pub mod Scanning
 pub mod Orders
 mod Named
+mod Soon
 pub mod Leaving
 mod Beginning
 mod Starts
 pub mod Ranged
-mod Sounds
+pub mod Sounds
+pub mod ScanSounds

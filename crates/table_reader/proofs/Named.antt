@@ -2,9 +2,12 @@
 use Rattle.std.proofs.Common.{◌≡◌, ◌∙◌, ℕ, ◌+◌, List, [], ◌∷◌, ◌++◌, length, take, Bool, true, false, cond, Option, None, Some, ◌⊎◌, inl, inr, arith, ap, append_assoc, length-append, refl, subst, sym}
 use Rattle.std.specs.Prelude.{ℤ, find}
 use Rattle.std.specs.List.{AllByRecursion}
+use Rattle.std.proofs.lemmas.Cmp.{nat_list_cmp_total}
 use Rattle.std.proofs.lemmas.List.{append-nil}
+use Rattle.std.specs.Ordering.{ordering_reverse}
 use Rattle.std.specs.declared.cmp.Ordering.{Ordering}
 use Rattle.std.specs.declared.cmp.Ordering.TheVariants.{Less, Equal, Greater}
+use Rattle.byte_comparable.proofs.Compare.{slice_front}
 use Rattle.byte_order.specs.Strings.{IsPrefix, IsPrefixOfNone}
 use Rattle.byte_order.proofs.Prefixes.{all, found}
 use Rattle.byte_order.proofs.Sizes.{never_longer}
@@ -19,7 +22,7 @@ use Rattle.table_files.specs.Blocks.{blocks_of}
 use Rattle.table_files.specs.IndexMeaning.{AllLead, AreIndexPaths, LeadsToEntry}
 use Rattle.table_files.specs.Indexes.{placed_at, placed_from}
 use Rattle.table_reader.proofs.Indexed.{alone_behind, front_begins}
-use Rattle.table_reader.proofs.Lookup.{common}
+use Rattle.table_reader.proofs.Lookup.{common, order_same, turned}
 use Rattle.table_reader.proofs.Orders.{less_on}
 
 -- ---- partitions and their paths
@@ -57,6 +60,7 @@ pub record Named (static : Option ValueType) (rows key : List ℕ) (at : ℕ) (p
   pub parts : ps ≡ front ++ p ∷ rest
   pub leads : LeadsToEntry rows (placed_at static (at + length (data_bytes static front)) p) (blocks_of static p) (signed_number path.payload)
   pub lower : AreLower key front
+  pub begins : IsPrefix path.path p.key
 
 -- ---- strings
 
@@ -78,6 +82,26 @@ lower_before key f g s (more, is) apart begins_key before =
     let less = less_on f.path g.path more behind before (λ begins. let begun = all f.path key (begins_on f.path g.path key begins (behind, whole)) in cc) in
     subst (λ (k : List ℕ). string_cmp s k ≡ Less) (sym whole) (subst (λ (l : List ℕ). string_cmp l (g.path ++ behind) ≡ Less) (sym is) less)
 
+-- what begins with a path that isn't below the key is above it, unless the path begins the key
+above_with : (key path more : List ℕ) → string_cmp key path ≡ Less → string_cmp key (path ++ more) ≡ Less
+above_with key path [] low = subst (λ (s : List ℕ). string_cmp key s ≡ Less) (sym (append-nil path)) low
+above_with key path (x ∷ more) low =
+    let further : string_cmp path (path ++ x ∷ more) ≡ Less = subst (λ (s : List ℕ). string_cmp s (path ++ x ∷ more) ≡ Less) (append-nil path) (slice_front path [] (x ∷ more)) in
+    nat_list_cmp_total.trans key path (path ++ x ∷ more) low further
+
+pub above_by : (key : List ℕ) (f : Path) (s : List ℕ) → IsPrefix f.path s → path_above true key f ≡ true → (path_begins key f ≡ true → string_cmp s key ≡ Less) → string_cmp s key ≡ Greater
+above_by key f s (more, is) test fits = by (string_cmp f.path key) refl test
+  where
+    by : (o : Ordering) → string_cmp f.path key ≡ o → is_above true o ≡ true → string_cmp s key ≡ Greater
+    by Less e t = cc
+    by Equal e t =
+        let same : f.path ≡ key = order_same f.path key e in
+        let low = fits (all f.path key ([], sym same ∙ sym (append-nil f.path))) in
+        absurd (never_longer s key low (more, is ∙ ap (λ (l : List ℕ). l ++ more) same))
+    by Greater e t =
+        let low : string_cmp key s ≡ Less = subst (λ (l : List ℕ). string_cmp key l ≡ Less) (sym is) (above_with key f.path more (turned f.path key e)) in
+        nat_list_cmp_total.antisymm s key ∙ ap ordering_reverse low
+
 -- ---- what is found in a list
 
 same_path : (f path : Path) → ◌≡◌ {A = Option Path} (Some f) (Some path) → f ≡ path
@@ -97,7 +121,7 @@ passes_by : (test : Path → Bool) (t : Bool) (f path : Path) (rest : Option Pat
 passes_by test true f path rest is e behind = subst (λ (p : Path). test p ≡ true) (same_path f path e) is
 passes_by test false f path rest is e behind = behind e
 
-found_passes : (test : Path → Bool) (fs : List Path) (path : Path) → find test fs ≡ Some path → test path ≡ true
+pub found_passes : (test : Path → Bool) (fs : List Path) (path : Path) → find test fs ≡ Some path → test path ≡ true
 found_passes test [] path e = cc
 found_passes test (f ∷ fs) path e = passes_by test (test f) f path (find test fs) refl e (λ there. found_passes test fs path there)
 
@@ -131,9 +155,9 @@ module _ (static : Option ValueType) (rows : List ℕ) where
   module _ (key : List ℕ) where
     -- ---- the partition of a path
 
-    named_here : (at : ℕ) (p : Partition) (ps : List Partition) (f path : Path) → f ≡ path → LeadsToEntry rows (placed_at static at p) (blocks_of static p) (signed_number f.payload)
+    named_here : (at : ℕ) (p : Partition) (ps : List Partition) (f path : Path) → f ≡ path → IsPrefix f.path p.key → LeadsToEntry rows (placed_at static at p) (blocks_of static p) (signed_number f.payload)
         → Named static rows key at (p ∷ ps) path
-    named_here at p ps f path same leads =
+    named_here at p ps f path same begins leads =
         let here : at ≡ at + 0 = omega arith in
         record {
           front = [];
@@ -143,6 +167,7 @@ module _ (static : Option ValueType) (rows : List ℕ) where
           leads = subst (λ (q : Path). LeadsToEntry rows (placed_at static (at + 0) p) (blocks_of static p) (signed_number q.payload)) same
               (subst (λ (k : ℕ). LeadsToEntry rows (placed_at static k p) (blocks_of static p) (signed_number f.payload)) here leads);
           lower = tt;
+          begins = subst (λ (q : Path). IsPrefix q.path p.key) same begins;
         }
 
     named_on : (at : ℕ) (p : Partition) (ps : List Partition) (path : Path) → string_cmp p.key key ≡ Less → Named static rows key (at + length (partition_bytes static p)) ps path
@@ -157,6 +182,7 @@ module _ (static : Option ValueType) (rows : List ℕ) where
           parts = ap (λ (l : List Partition). p ∷ l) n.parts;
           leads = subst (λ (k : ℕ). LeadsToEntry rows (placed_at static k n.p) (blocks_of static n.p) (signed_number path.payload)) there n.leads;
           lower = (low, n.lower);
+          begins = n.begins;
         }
 
     -- ---- the first path that begins the key
@@ -189,7 +215,7 @@ module _ (static : Option ValueType) (rows : List ℕ) where
     exact_by true at p ps f fs None is have ascend e rec = cc
     exact_by true at p ps f fs (Some path) is have ascend e rec =
         let same : f ≡ path = cc in (
-          named_here at p ps f path same have.2,
+          named_here at p ps f path same have.0 have.2,
           λ low. (λ _. low, none_behind (at + length (partition_bytes static p)) f ps fs (found f.path key is) have.1 ascend.0 have.3),
         )
     exact_by false at p ps f fs None is have ascend e rec = (λ yes. cc, rec None e)
@@ -210,17 +236,21 @@ module _ (static : Option ValueType) (rows : List ℕ) where
 
     abbrev pub NamesNext : ℕ → List Partition → Option Path → Type 0
     NamesNext at ps None = AreLower key ps
-    NamesNext at ps (Some path) = Named static rows key at ps path
+    NamesNext at ps (Some path) = (n : Named static rows key at ps path) × (path_begins key path ≡ true → string_cmp n.p.key key ≡ Less)
 
     next_by : (c : Ordering) (at : ℕ) (p : Partition) (ps : List Partition) (f : Path) (fs : List Path) (o : Option Path) → string_cmp f.path key ≡ c → HavePaths static rows at (p ∷ ps) (f ∷ fs)
         → BegunAreLower key (p ∷ ps) (f ∷ fs) → cond (is_above true c) (Some f) (find (path_above true key) fs) ≡ o
         → ((o' : Option Path) → find (path_above true key) fs ≡ o' → NamesNext (at + length (partition_bytes static p)) ps o') → NamesNext at (p ∷ ps) o
+    unfolding named_on named_here
     next_by Less at p ps f fs None is have fits e rec = (lower_by key f p.key (path_begins key f) refl have.0 is fits.0, rec None e)
-    next_by Less at p ps f fs (Some path) is have fits e rec = named_on at p ps path (lower_by key f p.key (path_begins key f) refl have.0 is fits.0) (rec (Some path) e)
+    next_by Less at p ps f fs (Some path) is have fits e rec =
+        let there = rec (Some path) e in (named_on at p ps path (lower_by key f p.key (path_begins key f) refl have.0 is fits.0) there.0, there.1)
     next_by Equal at p ps f fs None is have fits e rec = cc
-    next_by Equal at p ps f fs (Some path) is have fits e rec = let same : f ≡ path = cc in named_here at p ps f path same have.2
+    next_by Equal at p ps f fs (Some path) is have fits e rec =
+        let same : f ≡ path = cc in (named_here at p ps f path same have.0 have.2, λ yes. fits.0 (subst (λ (q : Path). path_begins key q ≡ true) (sym same) yes))
     next_by Greater at p ps f fs None is have fits e rec = cc
-    next_by Greater at p ps f fs (Some path) is have fits e rec = let same : f ≡ path = cc in named_here at p ps f path same have.2
+    next_by Greater at p ps f fs (Some path) is have fits e rec =
+        let same : f ≡ path = cc in (named_here at p ps f path same have.0 have.2, λ yes. fits.0 (subst (λ (q : Path). path_begins key q ≡ true) (sym same) yes))
 
     pub next_names : (at : ℕ) (ps : List Partition) (fs : List Path) (o : Option Path) → HavePaths static rows at ps fs → BegunAreLower key ps fs → find (path_above true key) fs ≡ o → NamesNext at ps o
     next_names at [] [] None have fits e = tt

@@ -28,6 +28,7 @@ use Rattle.table_reader.specs.declared.walker.Met.TheVariants.{Passed, Given, Do
 use Rattle.table_reader.specs.declared.walker.Walker.{Walker}
 use Rattle.table_reader.specs.Parts.{GivesStatic, IsStaticAbove, IsStaticPartBehind, NoStaticPartBehind}
 use Rattle.table_reader.specs.Ranges.{BeginsStatic, IsAbove, IsBelow, IsEntryBelow, IsEntryOf, IsOpen, IsPast, StandsStill, StepIs, entries_of, entry_of, inside_of, within_bytes}
+use Rattle.table_reader.specs.StepsOver.{IsAny, IsOfStatic, StepsOver}
 use Rattle.table_reader.specs.Window.{Unread, Continues, HasEnough, enough, read_to}
 
 -- ---- the partition
@@ -62,7 +63,7 @@ open_there columns inside key is known = subst (IsOpen columns) is known
 abbrev pub passed_by : ℕ → Unread → Unread
 passed_by count w = record { bytes = drop count w.bytes; at = w.at + count; limit = w.limit; whole = w.whole }
 
-passed : (file : List ℕ) (w : Unread) (count : ℕ) → Continues file w → count ≤ length w.bytes → Continues file (passed_by count w)
+pub passed : (file : List ℕ) (w : Unread) (count : ℕ) → Continues file w → count ≤ length w.bytes → Continues file (passed_by count w)
 passed file w count c fits = record {
   rest = c.rest;
   is = sym (drop-drop count w.at file) ∙ ap (drop count) c.is ∙ drop-append-le count w.bytes c.rest fits;
@@ -77,73 +78,78 @@ room_there w bytes same room = subst (λ (b : List ℕ). w.at + length b ≤ w.l
 
 module _ (columns : Columns) where
   -- from one window to another a walk passes these entries
-  abbrev pub Moving : Unread → Unread → Option (List ℕ) → Option (List ℕ) → List Entry → Type 0
-  Moving w v inside inside' entries = (w.at < v.at) × (v.at ≤ v.limit) × (v.limit ≡ w.limit) × ((file : List ℕ) → Continues file w
-      → Continues file v × Passes columns file inside w.at entries inside' v.at) × (read_to v ≡ read_to w) × (v.whole ≡ w.whole)
+  abbrev pub Moving : (List ℕ → List ℕ → Type 0) → Unread → Unread → Option (List ℕ) → Option (List ℕ) → List Entry → Type 0
+  Moving Is w v inside inside' entries = (w.at < v.at) × (v.at ≤ v.limit) × (v.limit ≡ w.limit) × ((file : List ℕ) → Continues file w
+      → Continues file v × Passes columns file inside w.at entries inside' v.at × StepsOver columns Is file inside w.at inside' v.at) × (read_to v ≡ read_to w) × (v.whole ≡ w.whole)
 
-  moving : (w v : Unread) (n : ℕ) (front rest : List ℕ) (inside inside' : Option (List ℕ)) (entries : List Entry) → w.at + length w.bytes ≤ w.limit → v ≡ passed_by n w → n ≡ length front → 0 < length front
-      → w.bytes ≡ front ++ rest → ((file more : List ℕ) → drop w.at file ≡ front ++ more → Passes columns file inside w.at entries inside' (w.at + length front))
-      → Moving w v inside inside' entries
-  moving w v n front rest inside inside' entries room is count some begins passes =
+  moving : (Is : List ℕ → List ℕ → Type 0) (w v : Unread) (n : ℕ) (front rest : List ℕ) (inside inside' : Option (List ℕ)) (entries : List Entry) → w.at + length w.bytes ≤ w.limit → v ≡ passed_by n w → n ≡ length front → 0 < length front
+      → w.bytes ≡ front ++ rest → ((file more : List ℕ) → drop w.at file ≡ front ++ more
+      → Passes columns file inside w.at entries inside' (w.at + length front) × StepsOver columns Is file inside w.at inside' (w.at + length front)) → Moving Is w v inside inside' entries
+  moving Is w v n front rest inside inside' entries room is count some begins passes =
       let fits : n ≤ length w.bytes = omega (arith, ap length begins, length-append front rest) in
-      subst (λ (u : Unread). Moving w u inside inside' entries) (sym is) (
+      subst (λ (u : Unread). Moving Is w u inside inside' entries) (sym is) (
         omega arith,
         omega arith,
         refl,
-        λ file c. (
-          passed file w n c fits,
-          subst (λ (k : ℕ). Passes columns file inside w.at entries inside' (w.at + k)) (sym count)
-              (passes file (rest ++ c.rest) (c.is ∙ ap (λ b. b ++ c.rest) begins ∙ append_assoc front rest c.rest)),
-        ),
+        λ file c.
+            let there = passes file (rest ++ c.rest) (c.is ∙ ap (λ b. b ++ c.rest) begins ∙ append_assoc front rest c.rest) in (
+              passed file w n c fits,
+              subst (λ (k : ℕ). Passes columns file inside w.at entries inside' (w.at + k)) (sym count) there.0,
+              subst (λ (k : ℕ). StepsOver columns Is file inside w.at inside' (w.at + k)) (sym count) there.1,
+            ),
         omega (arith, fits, length-drop n w.bytes),
         refl,
       )
 
   -- behind the head of the bytes its static part stands
-  parts_there : (bytes key more behind : List ℕ) (static_part : Option (List ℕ)) → bytes ≡ head_bytes key ++ more → drop (length (head_bytes key)) bytes ≡ static_part_bytes columns.static_value static_part ++ behind
+  pub parts_there : (bytes key more behind : List ℕ) (static_part : Option (List ℕ)) → bytes ≡ head_bytes key ++ more → drop (length (head_bytes key)) bytes ≡ static_part_bytes columns.static_value static_part ++ behind
       → bytes ≡ (head_bytes key ++ static_part_bytes columns.static_value static_part) ++ behind
   parts_there bytes key more behind static_part e f =
       let rest : more ≡ static_part_bytes columns.static_value static_part ++ behind = sym (drop-append_seam (head_bytes key) more) ∙ ap (drop (length (head_bytes key))) (sym e) ∙ f in
       e ∙ ap (λ bs. head_bytes key ++ bs) rest ∙ sym (append_assoc (head_bytes key) (static_part_bytes columns.static_value static_part) behind)
 
-  pub moves_head : (w v : Unread) (n : ℕ) (inside : Option (List ℕ)) (key : List ℕ) (static_part : Option (List ℕ)) (count : ℕ) → w.at + length w.bytes ≤ w.limit → inside ≡ None → v ≡ passed_by n w
+  pub moves_head : (Is : List ℕ → List ℕ → Type 0) (w v : Unread) (n : ℕ) (inside : Option (List ℕ)) (key : List ℕ) (static_part : Option (List ℕ)) (count : ℕ) → w.at + length w.bytes ≤ w.limit → inside ≡ None → v ≡ passed_by n w
       → n ≡ length (head_bytes key) + count → BeginsHead columns w.bytes key → IsStaticPartBehind columns (drop (length (head_bytes key)) w.bytes) static_part count
-      → Moving w v inside (Some key) (static_entries key static_part)
-  moves_head w v n inside key static_part count room outside is long (string, (more, e)) (f, size, (behind, g)) =
+      → IsOfStatic Is key static_part → Moving Is w v inside (Some key) (static_entries key static_part)
+  moves_head Is w v n inside key static_part count room outside is long (string, (more, e)) (f, size, (behind, g)) so =
       let front : List ℕ = head_bytes key ++ static_part_bytes columns.static_value static_part in
-      moving w v n front behind inside (Some key) (static_entries key static_part) room is (omega (arith, length-append (head_bytes key) (static_part_bytes columns.static_value static_part)))
+      moving Is w v n front behind inside (Some key) (static_entries key static_part) room is (omega (arith, length-append (head_bytes key) (static_part_bytes columns.static_value static_part)))
       (omega (arith, length-append (head_bytes key) (static_part_bytes columns.static_value static_part))) (parts_there w.bytes key more behind static_part e g)
-      (λ file rest at. subst (λ (o : Option (List ℕ)). Passes columns file o w.at (static_entries key static_part) (Some key) (w.at + length front)) (sym outside)
-      (head_passes columns file w.at key static_part rest string f at))
+      (λ file rest at. subst (λ (o : Option (List ℕ)). Passes columns file o w.at (static_entries key static_part) (Some key) (w.at + length front)
+      × StepsOver columns Is file o w.at (Some key) (w.at + length front)) (sym outside)
+      (head_passes columns file w.at key static_part rest string f at, (static_part, rest, string, f, so, at, refl)))
 
-  moves_row : (w v : Unread) (n : ℕ) (inside : Option (List ℕ)) (key c value : List ℕ) → w.at + length w.bytes ≤ w.limit → inside ≡ Some key → v ≡ passed_by n w
-      → n ≡ length (row_bytes c value) → BeginsRow columns w.bytes c value → Moving w v inside inside ((key ++ c, value) ∷ [])
-  moves_row w v n inside key c value room within is count b =
-      moving w v n (row_bytes c value) b.1.0 inside inside ((key ++ c, value) ∷ []) room is count (omega arith) b.1.1
-      (λ file more e. subst (λ (o : Option (List ℕ)). Passes columns file o w.at ((key ++ c, value) ∷ []) o (w.at + length (row_bytes c value))) (sym within) (row_passes columns file w.at key c value more b.0 e))
+  moves_row : (Is : List ℕ → List ℕ → Type 0) (w v : Unread) (n : ℕ) (inside : Option (List ℕ)) (key c value : List ℕ) → w.at + length w.bytes ≤ w.limit → inside ≡ Some key → v ≡ passed_by n w
+      → n ≡ length (row_bytes c value) → BeginsRow columns w.bytes c value → Is key c → Moving Is w v inside inside ((key ++ c, value) ∷ [])
+  moves_row Is w v n inside key c value room within is count b so =
+      moving Is w v n (row_bytes c value) b.1.0 inside inside ((key ++ c, value) ∷ []) room is count (omega arith) b.1.1
+      (λ file more e. subst (λ (o : Option (List ℕ)). Passes columns file o w.at ((key ++ c, value) ∷ []) o (w.at + length (row_bytes c value))
+      × StepsOver columns Is file o w.at o (w.at + length (row_bytes c value))) (sym within)
+      (row_passes columns file w.at key c value more b.0 e, (c, value, more, refl, b.0, so, e, refl)))
 
-  moves_end : (w v : Unread) (n : ℕ) (inside : Option (List ℕ)) (key : List ℕ) → w.at + length w.bytes ≤ w.limit → inside ≡ Some key → v ≡ passed_by n w → n ≡ 1 → BeginsEnd w.bytes → Moving w v inside None []
-  moves_end w v n inside key room within is count (rest, begins) =
-      moving w v n (0 ∷ []) rest inside None [] room is count (omega arith) begins
-      (λ file more e. subst (λ (o : Option (List ℕ)). Passes columns file o w.at [] None (w.at + 1)) (sym within) (end_passes columns file w.at key more e))
+  moves_end : (Is : List ℕ → List ℕ → Type 0) (w v : Unread) (n : ℕ) (inside : Option (List ℕ)) (key : List ℕ) → w.at + length w.bytes ≤ w.limit → inside ≡ Some key → v ≡ passed_by n w → n ≡ 1 → BeginsEnd w.bytes → Moving Is w v inside None []
+  moves_end Is w v n inside key room within is count (rest, begins) =
+      moving Is w v n (0 ∷ []) rest inside None [] room is count (omega arith) begins
+      (λ file more e. subst (λ (o : Option (List ℕ)). Passes columns file o w.at [] None (w.at + 1) × StepsOver columns Is file o w.at None (w.at + 1)) (sym within)
+      (end_passes columns file w.at key more e, (more, e, refl)))
 
   -- ---- what is in the file
 
   all_of : (file : List ℕ) (w : Unread) (c : Continues file w) → w.whole ≡ true → drop w.at file ≡ w.bytes
   all_of file w c whole = c.is ∙ ap (λ r. w.bytes ++ r) (c.ended whole) ∙ append-nil w.bytes
 
-  row_there : (file : List ℕ) (w : Unread) (clustering value : List ℕ) → Continues file w → BeginsRow columns w.bytes clustering value → BeginsRow columns (drop w.at file) clustering value
+  pub row_there : (file : List ℕ) (w : Unread) (clustering value : List ℕ) → Continues file w → BeginsRow columns w.bytes clustering value → BeginsRow columns (drop w.at file) clustering value
   row_there file w clustering value c (is, (more, e)) = (is, (more ++ c.rest, c.is ∙ ap (λ b. b ++ c.rest) e ∙ append_assoc (row_bytes clustering value) more c.rest))
 
-  no_head_there : (file : List ℕ) (w : Unread) → Continues file w → HasEnough w → NoHead columns w.bytes → NoHead columns (drop w.at file)
+  pub no_head_there : (file : List ℕ) (w : Unread) → Continues file w → HasEnough w → NoHead columns w.bytes → NoHead columns (drop w.at file)
   no_head_there file w c (inl whole) no_head = subst (λ (b : List ℕ). NoHead columns b) (sym (all_of file w c whole)) no_head
   no_head_there file w c (inr long) no_head = subst (λ (b : List ℕ). NoHead columns b) (sym c.is) (no_head_on columns w.bytes c.rest (omega arith) no_head)
 
-  some_there : (bytes rest : List ℕ) → bytes ≢ [] → bytes ++ rest ≢ []
+  pub some_there : (bytes rest : List ℕ) → bytes ≢ [] → bytes ++ rest ≢ []
   some_there [] rest ne = λ e. ne refl
   some_there (b ∷ bytes) rest ne = λ e. cc
 
-  no_part_there : (file : List ℕ) (w : Unread) (key more : List ℕ) → length key ≤ 1024 → w.bytes ≡ head_bytes key ++ more → (c : Continues file w) → HasEnough w
+  pub no_part_there : (file : List ℕ) (w : Unread) (key more : List ℕ) → length key ≤ 1024 → w.bytes ≡ head_bytes key ++ more → (c : Continues file w) → HasEnough w
       → ((NoStaticPart columns more × (length more < 65538)) ⊎ ((rest : List ℕ) → NoStaticPart columns (more ++ rest))) → NoStaticPart columns (more ++ c.rest)
   no_part_there file w key more short e c full (inr never) = never c.rest
   no_part_there file w key more short e c (inl whole) (inl (no_part, few)) = subst (NoStaticPart columns) (sym (ap (λ r. more ++ r) (c.ended whole) ∙ append-nil more)) no_part
@@ -222,12 +228,21 @@ module _ (columns : Columns) where
       let P : EntryStrings → Type 0 = λ e. (IsEntryBelow from e → ⊥) × (e.partition ≡ key) × (e.clustering ≡ None) × (static_entries key (Some value) ≡ entry_of e ∷ []) in
       subst P (sym is) (apart, refl, refl, ap (λ (k : List ℕ). (k, value) ∷ []) (sym (append-nil key)))
 
+  -- a static value that isn't given lies below
+  pub static_lies_below : (from : Option BoundString) (key : List ℕ) (static_part : Option (List ℕ)) → GivesStatic from key static_part None → IsOfStatic (IsBelow from) key static_part
+  static_lies_below from key None given = tt
+  static_lies_below from key (Some value) given = given
+
+  pub any_static : (key : List ℕ) (static_part : Option (List ℕ)) → IsOfStatic IsAny key static_part
+  any_static key None = tt
+  any_static key (Some value) = tt
+
   pub enters_passing : (walk : Walker) (v : Unread) (key kept : List ℕ) (static_part : Option (List ℕ)) → kept ≡ key → IsStringOf columns.partition key → GivesStatic walk.from key static_part None
-      → Moving walk.window v (inside_of walk) (Some key) (static_entries key static_part)
+      → Moving (IsBelow walk.from) walk.window v (inside_of walk) (Some key) (static_entries key static_part)
       → StepIs columns walk (record { window = v; key = kept; inside = true; from = walk.from; to = walk.to }) (Ok Passed)
   enters_passing walk v key kept static_part same string given moves =
       let told = static_passed walk.from key static_part string given in
-      let M : List ℕ → List Entry → Type 0 = λ k es. Moving walk.window v (inside_of walk) (Some k) es in (
+      let M : List ℕ → List Entry → Type 0 = λ k es. Moving (IsBelow walk.from) walk.window v (inside_of walk) (Some k) es in (
         told.0,
         told.1,
         subst (λ (k : List ℕ). M k (entries_of told.0)) (sym same) (subst (M key) told.2 moves),
@@ -246,11 +261,11 @@ module _ (columns : Columns) where
   some_static from to key (Some value) entry given apart above = apart above
 
   pub enters_giving : (walk : Walker) (v : Unread) (key kept : List ℕ) (static_part : Option (List ℕ)) (entry : EntryStrings) → kept ≡ key → IsStringOf columns.partition key → GivesStatic walk.from key static_part (Some entry)
-      → (IsStaticAbove walk.to key static_part → ⊥) → Moving walk.window v (inside_of walk) (Some key) (static_entries key static_part)
+      → (IsStaticAbove walk.to key static_part → ⊥) → Moving IsAny walk.window v (inside_of walk) (Some key) (static_entries key static_part)
       → StepIs columns walk (record { window = v; key = kept; inside = true; from = None; to = walk.to }) (Ok (Given entry))
   enters_giving walk v key kept static_part entry same string given apart moves =
       let told = static_told walk.from key static_part entry given in
-      let M : List ℕ → List Entry → Type 0 = λ k es. Moving walk.window v (inside_of walk) (Some k) es in (
+      let M : List ℕ → List Entry → Type 0 = λ k es. Moving IsAny walk.window v (inside_of walk) (Some k) es in (
         told.0,
         not_above walk.to key entry told.1 told.2 (some_static walk.from walk.to key static_part entry given apart),
         subst (λ (k : List ℕ). M k (entry_of entry ∷ [])) (sym same) (subst (M key) told.3 moves),
@@ -283,12 +298,13 @@ module _ (columns : Columns) where
   pub ends_partition : (walk : Walker) (v : Unread) → (walk.inside ≡ false → ⊥) → walk.window.at + length walk.window.bytes ≤ walk.window.limit → v ≡ passed_by 1 walk.window → BeginsEnd walk.window.bytes
       → StepIs columns walk (record { window = v; key = walk.key; inside = false; from = walk.from; to = walk.to }) (Ok Passed)
   ends_partition walk v within room is begins =
-      ([], tt, moves_end walk.window v 1 (inside_of walk) walk.key room (is_inside walk within) is refl begins, refl, refl, λ known. (tt, tt))
+      ([], tt, moves_end (IsBelow walk.from) walk.window v 1 (inside_of walk) walk.key room (is_inside walk within) is refl begins, refl, refl, λ known. (tt, tt))
 
-  row_moves : (walk : Walker) (v : Unread) (n : ℕ) (clustering value : List ℕ) → (walk.inside ≡ false → ⊥) → walk.window.at + length walk.window.bytes ≤ walk.window.limit → v ≡ passed_by n walk.window
-      → n ≡ length (row_bytes clustering value) → BeginsRow columns walk.window.bytes clustering value → Moving walk.window v (inside_of walk) (inside_of walk) ((walk.key ++ clustering, value) ∷ [])
-  row_moves walk v n clustering value within room is count begins =
-      moves_row walk.window v n (inside_of walk) walk.key clustering value room (is_inside walk within) is count begins
+  row_moves : (Is : List ℕ → List ℕ → Type 0) (walk : Walker) (v : Unread) (n : ℕ) (clustering value : List ℕ) → (walk.inside ≡ false → ⊥) → walk.window.at + length walk.window.bytes ≤ walk.window.limit → v ≡ passed_by n walk.window
+      → n ≡ length (row_bytes clustering value) → BeginsRow columns walk.window.bytes clustering value → Is walk.key clustering
+      → Moving Is walk.window v (inside_of walk) (inside_of walk) ((walk.key ++ clustering, value) ∷ [])
+  row_moves Is walk v n clustering value within room is count begins so =
+      moves_row Is walk.window v n (inside_of walk) walk.key clustering value room (is_inside walk within) is count begins so
 
   pub passes_row_below : (walk : Walker) (v : Unread) (n : ℕ) (clustering value : List ℕ) → (walk.inside ≡ false → ⊥) → walk.window.at + length walk.window.bytes ≤ walk.window.limit → v ≡ passed_by n walk.window
       → n ≡ length (row_bytes clustering value) → BeginsRow columns walk.window.bytes clustering value → IsBelow walk.from walk.key clustering
@@ -296,7 +312,7 @@ module _ (columns : Columns) where
   passes_row_below walk v n clustering value within room is count begins below = (
     record { partition = walk.key; clustering = Some clustering; value = value } ∷ [],
     (below, tt),
-    row_moves walk v n clustering value within room is count begins,
+    row_moves (IsBelow walk.from) walk v n clustering value within room is count begins below,
     refl,
     refl,
     λ known. (known, (record { partition = open_there columns (inside_of walk) walk.key (is_inside walk within) known; clustering = begins.0.0 }, tt)),
@@ -313,7 +329,7 @@ module _ (columns : Columns) where
       subst (λ (e : EntryStrings). StepIs columns walk walk' (Ok (Given e))) (sym whole) (
         below,
         above,
-        row_moves walk v n clustering value within room is count begins,
+        row_moves IsAny walk v n clustering value within room is count begins tt,
         refl,
         refl,
         is_inside walk within,

@@ -22,7 +22,7 @@ use Rattle.table_reader.specs.Reads.{IsPathWithin, IsSeparatorWithin, IsSoundThe
 use Rattle.table_reader.proofs.Indexed.{FindsAmong, HasRoot, leads_ok, number_found}
 use Rattle.table_reader.proofs.Whole.{StandsAt, stands_at}
 
-path_within : (a : Answer) (o : Option Path) (most : ℕ) → a ≡ Ok o → path_length a ≤ most → IsPathWithin a most
+pub path_within : (a : Answer) (o : Option Path) (most : ℕ) → a ≡ Ok o → path_length a ≤ most → IsPathWithin a most
 path_within (Err wrong) o most e l = cc
 path_within (Ok None) o most e l = tt
 path_within (Ok (Some path)) o most e l = l
@@ -32,7 +32,7 @@ root_within : (rows key : List ℕ) (root : ℕ) (blocks : List Block) (found : 
 root_within rows key root blocks (Err wrong) most is means l = absurd means
 root_within rows key root blocks (Ok fs) most is means l = path_within (floor_in rows root key) (find_last (path_below true key) fs) most (searches_find rows key root fs is).floor l
 
-separator_within : (rows key : List ℕ) (root : Option ℕ) (blocks : List Block) (most : ℕ) → HasRoot rows blocks root → separator_length rows root key ≤ most → IsSeparatorWithin rows root key most
+pub separator_within : (rows key : List ℕ) (root : Option ℕ) (blocks : List Block) (most : ℕ) → HasRoot rows blocks root → separator_length rows root key ≤ most → IsSeparatorWithin rows root key most
 separator_within rows key None blocks most has l = tt
 separator_within rows key (Some root) blocks most has l = root_within rows key root blocks (paths rows root) most refl has l
 

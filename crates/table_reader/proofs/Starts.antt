@@ -1,5 +1,5 @@
 -- Places of Data.db at which a scan may begin, and the entries before them and behind.
-use Rattle.std.proofs.Common.{◌≡◌, ◌∙◌, ℕ, ◌+◌, ◌<◌, ◌≤◌, List, [], ◌∷◌, ◌++◌, length, drop, Option, None, Some, Result, Ok, arith, ap, append_assoc, length-append, refl, subst, sym}
+use Rattle.std.proofs.Common.{◌≡◌, ◌∙◌, ℕ, ◌+◌, ◌<◌, ◌≤◌, List, [], ◌∷◌, ◌++◌, length, drop, Option, None, Some, Result, Ok, arith, ap, append_assoc, length-append, refl, subst, sym, false}
 use Rattle.std.specs.List.{AllByRecursion}
 use Rattle.std.proofs.lemmas.List.{append-nil, length-drop}
 use Rattle.std.proofs.Math.Seq.{drop-append_seam}
@@ -19,11 +19,14 @@ use Rattle.table_files.proofs.WalkLemmas.{partitions_walk, rows_walk}
 use Rattle.table_reader.specs.declared.seek.BoundString.{BoundString}
 use Rattle.table_reader.specs.declared.seek.Start.{Start}
 use Rattle.table_reader.specs.Laws.{bound_bytes}
+use Rattle.table_reader.specs.Going.{ListsOn, bytes_ahead, bytes_of_partitions, bytes_of_rows, is_lower, most_below}
 use Rattle.table_reader.specs.Ranges.{IsOpen, within_bytes}
+use Rattle.table_reader.proofs.Going.{partitions_soon}
 use Rattle.table_reader.proofs.InBlock.{AreBelow}
 use Rattle.table_reader.proofs.Lookup.{entries_both}
 use Rattle.table_reader.proofs.Named.{AreLower}
 use Rattle.table_reader.proofs.Orders.{less_on}
+use Rattle.table_reader.proofs.Soon.{rows_are, some_behind}
 use Rattle.table_reader.proofs.Whole.{are_parted, data_both, rows_behind, stands_at, stands_tail}
 
 -- a walk from the place gives these entries and comes to the file's end; without a place there are none
@@ -36,6 +39,12 @@ GoesFrom columns file (Some start) entries =
 abbrev pub AreEntriesBelow : List ℕ → List Entry → Type 0
 AreEntriesBelow string entries = AllByRecursion (λ (e : Entry). string_cmp e.0 string ≡ Less) entries
 
+-- the next entry of a range that begins there, from a bound on, is near
+abbrev pub IsNearAt : Columns → List ℕ → Option BoundString → Option Start → Type 0
+IsNearAt columns file from None = Unit {0}
+IsNearAt columns file from (Some start) = (rows : List Row) × (ps : List Partition) × ListsOn columns file start.partition start.at rows ps
+    × (bytes_ahead from columns.static_value start.partition rows ps ≤ most_below)
+
 -- the search for a bound comes to a place; the entries before it lie below the bound, and a walk gives those behind it
 pub record Begins (columns : Columns) (file : List ℕ) (all : List Entry) (bound : BoundString) (found : Result (Option Start) Damage) : Type 0 where
   pub start : Option Start
@@ -45,6 +54,7 @@ pub record Begins (columns : Columns) (file : List ℕ) (all : List Entry) (boun
   pub parts : all ≡ before ++ left
   pub below : AreEntriesBelow (bound_bytes bound) before
   pub goes : GoesFrom columns file start left
+  pub near : IsNearAt columns file (Some bound) start
 
 both_below : (string : List ℕ) (xs ys : List Entry) → AreEntriesBelow string xs → AreEntriesBelow string ys → AreEntriesBelow string (xs ++ ys)
 both_below string [] ys p q = q
@@ -107,6 +117,7 @@ module _ (columns : Columns) (bound : BoundString) (is : IsStringOf columns.part
       parts = sym (append-nil (entries_in ps));
       below = lower_entries ps are low;
       goes = refl;
+      near = tt;
     }
 
     module _ (front : List Partition) (p : Partition) (rest : List Partition) (parts : ps ≡ front ++ p ∷ rest) (low : AreLower bound.partition front) where
@@ -125,9 +136,12 @@ module _ (columns : Columns) (bound : BoundString) (is : IsStringOf columns.part
       base_in : base ≤ length file
       base_in = omega (arith, ap (λ (l : List ℕ). length l) whole, length-append (data_bytes static front) (data_bytes static (p ∷ rest)))
 
-      -- at the head of a partition
-      pub at_partition : (found : Result (Option Start) Damage) → found ≡ Ok (Some (record { at = base; partition = None })) → BeginsSo found
-      at_partition found e =
+      some : RowsAscend (p ∷ rest)
+      some = some_behind front (p ∷ rest) (subst RowsAscend parts ascend)
+
+      -- at the head of a partition that isn't below the bound
+      pub at_partition : (found : Result (Option Start) Damage) → ((within : List ℕ) → is_lower (Some bound) p.key within ≡ false) → found ≡ Ok (Some (record { at = base; partition = None })) → BeginsSo found
+      at_partition found high e =
           let there : drop base file ≡ data_bytes static (p ∷ rest) = ap (drop base) whole ∙ drop-append_seam (data_bytes static front) (data_bytes static (p ∷ rest)) in
           record {
             start = Some (record { at = base; partition = None });
@@ -137,15 +151,12 @@ module _ (columns : Columns) (bound : BoundString) (is : IsStringOf columns.part
             parts = ap entries_in parts ∙ entries_both front (p ∷ rest);
             below = lower_entries front both.0 low;
             goes = (tt, base_in, subst (λ (b : List ℕ). Walks columns None base b (entries_in (p ∷ rest)) None) (sym there) (partitions_walk columns (p ∷ rest) both.1 base));
+            near = ([], p ∷ rest, (refl, there, both.1, some), omega (arith, partitions_soon columns (Some bound) (p ∷ rest) high both.1 some));
           }
 
       -- at a row of the bound's partition, or at its end
       some_there : (rows : List Row) (tail : List ℕ) (at : ℕ) → drop at file ≡ rows_bytes rows ++ 0 ∷ tail → at ≤ length file
       some_there rows tail at e = omega (arith, ap (λ (l : List ℕ). length l) e, length-drop at file, length-append (rows_bytes rows) (0 ∷ tail))
-
-      rows_are : (xs ys : List Row) → AreRows columns (xs ++ ys) → AreRows columns ys
-      rows_are [] ys rows = rows
-      rows_are (x ∷ xs) ys rows = rows_are xs ys rows.1
 
       row_entries_both : (key : List ℕ) (xs ys : List Row) → row_entries key (xs ++ ys) ≡ row_entries key xs ++ row_entries key ys
       row_entries_both key [] ys = refl
@@ -156,8 +167,9 @@ module _ (columns : Columns) (bound : BoundString) (is : IsStringOf columns.part
 
       pub at_row : (found : Result (Option Start) Damage) (clustering : List ℕ) (passed more : List Row) → p.key ≡ bound.partition → bound.clustering ≡ Some clustering → 0 < length clustering
           → p.rows ≡ passed ++ more → AreBelow clustering passed
+          → bytes_of_rows (Some bound) p.key more (bytes_of_partitions (Some bound) static rest) ≤ most_below
           → found ≡ Ok (Some (record { at = base + (rows_at static p + length (rows_bytes passed)); partition = Some p.key })) → BeginsSo found
-      at_row found clustering passed more same e some rows below found_is =
+      at_row found clustering passed more same e named rows below soon found_is =
           let at = base + (rows_at static p + length (rows_bytes passed)) in
           let tail = data_bytes static rest in
           let listed = bytes ∙ ap (data_bytes static) parts in
@@ -166,7 +178,7 @@ module _ (columns : Columns) (bound : BoundString) (is : IsStringOf columns.part
           rows_behind (record { columns = columns; entries = file; partitions = []; rows = [] }) p base s passed more at rows refl
           ∙ ap (λ (l : List ℕ). rows_bytes more ++ 0 ∷ l) (stands_tail columns file front p rest listed (subst (ArePartitions columns) parts are) (subst RowsAscend parts ascend)) in
           let own = static_entries p.key p.static_part in
-          let walk = rows_walk columns more p.key tail (entries_in rest) (rows_are passed more (subst (AreRows columns) rows both.1.2)) (partitions_walk columns rest both.1.3) at in
+          let walk = rows_walk columns more p.key tail (entries_in rest) (rows_are columns passed more (subst (AreRows columns) rows both.1.2)) (partitions_walk columns rest both.1.3) at in
           record {
             start = Some (record { at = at; partition = Some p.key });
             is = found_is;
@@ -177,7 +189,7 @@ module _ (columns : Columns) (bound : BoundString) (is : IsStringOf columns.part
                 ∙ grouped (entries_in front) own (row_entries p.key passed) (row_entries p.key more) (entries_in rest);
             below = both_below (bound_bytes bound) (entries_in front) (own ++ row_entries p.key passed) (lower_entries front both.0 low)
                 (subst (λ (k : List ℕ). AreEntriesBelow (bound_bytes bound) (static_entries k p.static_part ++ row_entries k passed)) (sym same)
-                (both_below (bound_bytes bound) (static_entries bound.partition p.static_part) (row_entries bound.partition passed) (own_static clustering p.static_part e some)
+                (both_below (bound_bytes bound) (static_entries bound.partition p.static_part) (row_entries bound.partition passed) (own_static clustering p.static_part e named)
                 (own_rows clustering passed e below)));
             goes = (
               both.1.0,
@@ -185,4 +197,5 @@ module _ (columns : Columns) (bound : BoundString) (is : IsStringOf columns.part
               subst (λ (b : List ℕ). Walks columns (Some p.key) at b (row_entries p.key more ++ entries_in rest) None)
                   (append_assoc (rows_bytes more) end_bytes tail ∙ sym there) walk,
             );
+            near = (more, rest, (rows_are columns passed more (subst (AreRows columns) rows both.1.2), there, both.1.3, some.2), soon);
           }

@@ -46,7 +46,7 @@ pub record StandsAt (columns : Columns) (file : List ℕ) (p : Partition) (base 
   pub rows : AreRows columns p.rows
   pub ascend : StringsAscend (clusterings p.rows)
 
-grouped : (h s r t : List ℕ) → (h ++ (s ++ (r ++ 0 ∷ []))) ++ t ≡ h ++ (s ++ (r ++ 0 ∷ t))
+pub grouped : (h s r t : List ℕ) → (h ++ (s ++ (r ++ 0 ∷ []))) ++ t ≡ h ++ (s ++ (r ++ 0 ∷ t))
 grouped h s r t =
     append_assoc h (s ++ (r ++ 0 ∷ [])) t ∙ ap (λ x. h ++ x) (append_assoc s (r ++ 0 ∷ []) t ∙ ap (λ x. s ++ x) (append_assoc r (0 ∷ []) t))
 
@@ -112,7 +112,7 @@ from_paths key at (row ∷ rows) found ascend are =
     from_located key at row rows (find_last (path_below true key) found)
     (located key 0 row.clustering (at + length (row_bytes row.clustering row.value)) rows found ascend are)
 
-no_blocks : (key : List ℕ) (at : ℕ) (rows : List Row) → blocks_among at rows ≡ [] → AreEnough key 0 at rows
+pub no_blocks : (key : List ℕ) (at : ℕ) (rows : List Row) → blocks_among at rows ≡ [] → AreEnough key 0 at rows
 no_blocks key at [] none = tt
 no_blocks key at (row ∷ rows) none = subst (FirstsAbove key) (sym none) tt
 

@@ -7,7 +7,10 @@ pub mod Laws
 pub mod Seeking
 pub mod SeekReads
 pub mod Window
+pub mod StepsOver
 pub mod Ranges
+pub mod Going
 pub mod Parts
 pub mod Scans
 pub mod Left
+pub mod NextReads

@@ -17,6 +17,7 @@ use Rattle.table_reader.specs.declared.walker.EntryStrings.{EntryStrings}
 use Rattle.table_reader.specs.declared.walker.Met.{Met}
 use Rattle.table_reader.specs.declared.walker.Met.TheVariants.{Passed, Given, Done}
 use Rattle.table_reader.specs.declared.walker.Walker.{Walker}
+use Rattle.table_reader.specs.StepsOver.{IsAny, StepsOver}
 use Rattle.table_reader.specs.Window.{Continues, Unread, read_to}
 
 -- ---- entries and bounds
@@ -91,23 +92,24 @@ IsPast columns file (Some key) at to =
 
 -- over a table with these columns
 module _ (columns : Columns) where
-  -- over every file that the window is one of, the walk passes these entries, and the window is of the file still; nothing
-  -- more is read
-  abbrev pub Moves : Walker → Walker → List Entry → Type 0
-  Moves walk walk' entries = (walk.window.at < walk'.window.at) × (walk'.window.at ≤ walk'.window.limit)
+  -- over every file that the window is one of, the walk passes these entries, by one step over what stands there, and the
+  -- window is of the file still; nothing more is read. Something is so of the entry's strings.
+  abbrev pub Moves : (List ℕ → List ℕ → Type 0) → Walker → Walker → List Entry → Type 0
+  Moves Is walk walk' entries = (walk.window.at < walk'.window.at) × (walk'.window.at ≤ walk'.window.limit)
       × (walk'.window.limit ≡ walk.window.limit)
       × ((file : List ℕ) → Continues file walk.window → Continues file walk'.window
-      × Passes columns file (inside_of walk) walk.window.at entries (inside_of walk') walk'.window.at)
+      × Passes columns file (inside_of walk) walk.window.at entries (inside_of walk') walk'.window.at
+      × StepsOver columns Is file (inside_of walk) walk.window.at (inside_of walk') walk'.window.at)
       × (read_to walk'.window ≡ read_to walk.window) × (walk'.window.whole ≡ walk.window.whole)
 
   -- A step passes over what gives no entry or one below the range; or it gives an entry that is neither below nor above
   -- it, after which nothing counts as below; or the walk is at the range's end; or nothing sound stands there.
   abbrev pub StepIs : Walker → Walker → Result Met DataError → Type 0
   StepIs walk walk' (Ok Passed) = (passed : List EntryStrings) × AllByRecursion (IsEntryBelow walk.from) passed
-      × Moves walk walk' (entries_of passed) × (walk'.from ≡ walk.from) × (walk'.to ≡ walk.to)
+      × Moves (IsBelow walk.from) walk walk' (entries_of passed) × (walk'.from ≡ walk.from) × (walk'.to ≡ walk.to)
       × (IsOpen columns (inside_of walk) → IsOpen columns (inside_of walk') × AllByRecursion (IsEntryOf columns) passed)
   StepIs walk walk' (Ok (Given entry)) = (IsEntryBelow walk.from entry → ⊥) × (IsEntryAbove walk.to entry → ⊥)
-      × Moves walk walk' (entry_of entry ∷ []) × (walk'.from ≡ None) × (walk'.to ≡ walk.to)
+      × Moves IsAny walk walk' (entry_of entry ∷ []) × (walk'.from ≡ None) × (walk'.to ≡ walk.to)
       × (inside_of walk' ≡ Some entry.partition) × (IsOpen columns (inside_of walk) → IsEntryOf columns entry)
   StepIs walk walk' (Ok Done) = StandsStill walk walk'
       × ((file : List ℕ) → Continues file walk.window → IsPast columns file (inside_of walk) walk.window.at walk.to)

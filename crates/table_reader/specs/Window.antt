@@ -23,16 +23,25 @@ enough = 66564
 abbrev pub HasEnough : Unread → Type 0
 HasEnough window = (window.whole ≡ true) ⊎ (enough ≤ length window.bytes)
 
+-- a file is read by pages of so many bytes
+abbrev pub page_size : ℕ
+page_size = 4096
+
+-- a window that was read ahead has at most so many bytes
+abbrev pub most_ahead : ℕ
+most_ahead = 86016
+
 -- the place up to which the file was read
 abbrev pub read_to : Unread → ℕ
 read_to window = window.at + length window.bytes
 
 -- the last page of a file may have any number of bytes, and counts as a whole one
 abbrev pub last_page : Bool → ℕ
-last_page true = 4096
+last_page true = page_size
 last_page false = 0
 
 -- from one window to another there were so many reads at most as whole pages were read
 abbrev pub PaysReads : Unread → Unread → ℕ → ℕ → Type 0
 PaysReads window window' before after =
-    4096 * after + read_to window + last_page window.whole ≤ 4096 * before + read_to window' + last_page window'.whole
+    page_size * after + read_to window + last_page window.whole
+    ≤ page_size * before + read_to window' + last_page window'.whole

@@ -1,6 +1,7 @@
 //! What a get finds in whole files, and what a scan gives of its range. The commands over a table's files stand on it.
 ghost use Rattle.table_reader.specs.Laws.{FootersStand, GetsAreBounded, GetsAreOfMap, OrderIsOfStrings};
 ghost use Rattle.table_reader.specs.Left.{RangeScanHasRange, ScansBeginWithRange, ScansGiveRange, WholeScanHasAll};
+ghost use Rattle.table_reader.specs.NextReads.{ScansAreBounded, ScansBeginNear};
 
 /// Over files that stand for a map, indexes and all, a get finds what the map has at the key.
 pub fn law_gets()
@@ -44,4 +45,15 @@ pub fn law_begun_ranges()
 /// Over such files a get meets no damage, so its bound on reads holds whatever it answers.
 pub fn law_get_reads()
     ensures { GetsAreBounded }
+{}
+
+/// Over such files the search for a scan's beginning meets no damage, so its bound on reads holds whatever it answers.
+pub fn law_scan_reads()
+    ensures { ScansAreBounded }
+{}
+
+/// Over such files a scan begins near its next entry, so each entry that it gives takes at most 64 reads, and so does
+/// its end.
+pub fn law_next_reads()
+    ensures { ScansBeginNear }
 {}

@@ -20,13 +20,14 @@ mod window;
 pub use block::{Stop, find_row};
 pub use fault::TableFault;
 pub use laws::{
-    law_begun_ranges, law_footers, law_get_reads, law_gets, law_order, law_ranges, law_scans,
-    law_whole_scan,
+    law_begun_ranges, law_footers, law_get_reads, law_gets, law_next_reads, law_order, law_ranges,
+    law_scan_reads, law_scans, law_whole_scan,
 };
 pub use scan::Scan;
 pub use seek::{BoundString, Start};
 pub use table::OpenTable;
-pub use walker::EntryStrings;
+pub use walker::{EntryStrings, static_part_behind};
+pub use window::Window;
 
 #[cfg(test)]
 mod scan_tests;

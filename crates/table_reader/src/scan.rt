@@ -11,7 +11,8 @@ ghost use Rattle.table_reader.specs.Scans.{unread_at, BeginsWalk, GivesNext, Goe
 ghost use Rattle.table_reader.specs.Left.{IsBound};
 ghost use Rattle.table_reader.specs.SeekReads.{AlwaysWithinScan, WithinScan};
 ghost use Rattle.table_reader.specs.Gets.{bytes_in};
-ghost use Rattle.table_reader.specs.Window.{read_to};
+ghost use Rattle.table_reader.specs.Going.{IsNear};
+ghost use Rattle.table_reader.specs.Window.{most_ahead, page_size, read_to};
 
 use crate::fault::TableFault;
 use crate::next::next_of;
@@ -144,6 +145,8 @@ impl OpenTable {
         ensures within { IfSome (K.files store.old) (λ m. IfSome self.old.footer (λ footer. AlwaysWithinScan
             (bytes_in (columns_of self.old.schema) m self.old.generation) footer from
             (K.reads store.old) (K.reads store.new))) }
+        ensures unread { IfSome self.old.footer (λ footer. footer.partitions ≡ 0
+            → K.reads store.new ≤ K.reads store.old) }
         ensures later { K.faults store.old ≤ K.faults store.new }
         ensures fault { result ≡ Err TableFault.StoreFault → Rose (K.faults store.old) (K.faults store.new) }
     {
@@ -167,9 +170,13 @@ impl OpenTable {
         ensures limit { scan.new.window.limit ≡ scan.old.window.limit }
         ensures whole { ¬ (result ≡ Err TableFault.Unfinished) }
         ensures files { K.files store.new ≡ K.files store.old }
-        ensures reads { 4096 * K.reads store.new + read_to scan.old.window
-            ≤ 4096 * K.reads store.old + read_to scan.new.window + 8192 }
-        ensures ahead { length scan.new.window.bytes ≤ max (length scan.old.window.bytes) 86016 }
+        ensures reads { page_size * K.reads store.new + read_to scan.old.window
+            ≤ page_size * K.reads store.old + read_to scan.new.window + 2 * page_size }
+        ensures ahead { length scan.new.window.bytes ≤ max (length scan.old.window.bytes) most_ahead }
+        ensures near { IfSome (K.files store.old) (λ m.
+            IsNear (columns_of self.now.schema) (bytes_of m (data_id self.now.generation)) scan.old
+            → IsNear (columns_of self.now.schema) (bytes_of m (data_id self.now.generation)) scan.new
+            × (K.reads store.new ≤ K.reads store.old + 64)) }
         ensures later { K.faults store.old ≤ K.faults store.new }
         ensures fault { result ≡ Err TableFault.StoreFault → Rose (K.faults store.old) (K.faults store.new) }
     {

@@ -249,6 +249,8 @@ impl OpenTable {
         ensures within { IfSome (K.files store.old) (λ m. IfSome self.old.footer (λ footer. AlwaysWithinScan
             (bytes_in (columns_of self.old.schema) m self.old.generation) footer (option_copied from.entry)
             (K.reads store.old) (K.reads store.new))) }
+        ensures unread { IfSome self.old.footer (λ footer. footer.partitions ≡ 0
+            → K.reads store.new ≤ K.reads store.old) }
         ensures later { K.faults store.old ≤ K.faults store.new }
         ensures fault { result ≡ Err TableFault.StoreFault → Rose (K.faults store.old) (K.faults store.new) }
     {

@@ -163,7 +163,7 @@ fn static_entry(alloc: Global, partition: &[u8], value: &[u8]) -> Result<EntrySt
 
 /// The static value behind a head of so many bytes, where there is one, and the length of the static part; `None` where
 /// no static part stands there. A table without a static type has none, of no bytes.
-fn static_part_behind<'b>(
+pub fn static_part_behind<'b>(
     schema: &Schema,
     bytes: &'b [u8],
     head: usize,

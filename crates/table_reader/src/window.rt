@@ -4,7 +4,7 @@ ghost use Rattle.std.specs.Prelude.{◌≡◌, ◌≤◌, ◌+◌, ◌*◌, ◌<
 ghost use Rattle.outside.specs.Causes.{Rose};
 ghost use Rattle.outside.specs.Files.{bytes_of};
 ghost use Rattle.data_file.specs.Answers.{IsStop};
-ghost use Rattle.table_reader.specs.Window.{Continues, HasEnough, PaysReads};
+ghost use Rattle.table_reader.specs.Window.{most_ahead, page_size, Continues, HasEnough, PaysReads};
 
 use data_file::DataError;
 use key_types::{ByteList, NoMemory};
@@ -106,11 +106,11 @@ impl Window {
     ) -> Result<bool, DataError>
         ensures told { IfSome (K.files store.old) (λ m. Continues (bytes_of m file) self.old → Continues (bytes_of m file) self.new) }
         ensures stops { IfErr result IsStop }
-        ensures more { IfOk result (λ more. more ≡ true → length self.new.bytes ≡ length self.old.bytes + 4096) }
+        ensures more { IfOk result (λ more. more ≡ true → length self.new.bytes ≡ length self.old.bytes + page_size) }
         ensures end { IfOk result (λ more. more ≡ false → self.new.whole ≡ true) }
         ensures on { IfOk result (λ more. more ≡ true → self.new.whole ≡ self.old.whole) }
         ensures grown { length self.old.bytes ≤ length self.new.bytes }
-        ensures most { length self.new.bytes ≤ length self.old.bytes + 4096 }
+        ensures most { length self.new.bytes ≤ length self.old.bytes + page_size }
         ensures place { self.new.at ≡ self.old.at }
         ensures limit { self.new.limit ≡ self.old.limit }
         ensures files { K.files store.new ≡ K.files store.old }
@@ -141,9 +141,10 @@ impl Window {
         ensures limit { self.new.limit ≡ self.old.limit }
         ensures files { K.files store.new ≡ K.files store.old }
         ensures kept { length self.old.bytes ≤ length self.new.bytes }
-        ensures reads { 4096 * K.reads store.new + length self.old.bytes ≤ 4096 * K.reads store.old + length self.new.bytes + 4096 }
+        ensures reads { page_size * K.reads store.new + length self.old.bytes
+            ≤ page_size * K.reads store.old + length self.new.bytes + page_size }
         ensures paid { IfOk result (λ _. PaysReads self.old self.new (K.reads store.old) (K.reads store.new)) }
-        ensures ahead { length self.new.bytes ≤ 86016 }
+        ensures ahead { length self.new.bytes ≤ most_ahead }
         ensures later { K.faults store.old ≤ K.faults store.new }
         ensures fault { result ≡ Err DataError.StoreFault → Rose (K.faults store.old) (K.faults store.new) }
     {
@@ -167,9 +168,10 @@ impl Window {
         ensures limit { self.new.limit ≡ self.old.limit }
         ensures files { K.files store.new ≡ K.files store.old }
         ensures kept { length self.old.bytes ≤ length self.new.bytes }
-        ensures reads { 4096 * K.reads store.new + length self.old.bytes ≤ 4096 * K.reads store.old + length self.new.bytes + 4096 }
+        ensures reads { page_size * K.reads store.new + length self.old.bytes
+            ≤ page_size * K.reads store.old + length self.new.bytes + page_size }
         ensures paid { IfOk result (λ _. PaysReads self.old self.new (K.reads store.old) (K.reads store.new)) }
-        ensures ahead { length self.new.bytes ≤ max (length self.old.bytes) 86016 }
+        ensures ahead { length self.new.bytes ≤ max (length self.old.bytes) most_ahead }
         ensures later { K.faults store.old ≤ K.faults store.new }
         ensures fault { result ≡ Err DataError.StoreFault → Rose (K.faults store.old) (K.faults store.new) }
     {

@@ -1,6 +1,7 @@
 use Rattle.std.proofs.Common.{◌∙◌, Err, Ok, ap, refl}
 use Rattle.key_types.specs.Columns.{columns_of}
 use Rattle.table_reader.specs.Opened.{Opened}
+use Rattle.scan_tool.proofs.Counting.{begun_within, few_ranged, unbegun_within}
 use Rattle.scan_tool.proofs.Scanned.{begun_in, printed_from, unbegun, unloaded}
 use Rattle.scan_tool.proofs.scanning.print_between.Goals as goal
 
@@ -27,3 +28,21 @@ returns-in-Err-scan_between-clause-prints g c =
     (begun_in (g.K.Store.files c.args.store.now) (g.K.Store.files c.load_footer.new.store) c.args.table.now c.load_footer.new.self c.args.from c.args.to (Err c.in-Err-scan_between.e) c.in-Ok.ensures.files c.in-Ok.ensures.same
     c.in-Ok.ensures.footer c.in-Err-scan_between.ensures.begins)
     refl
+
+pub returns-in-Err-clause-reads : goal.returns-in-Err-clause-reads
+returns-in-Err-clause-reads g c =
+    few_ranged (g.K.Store.files c.args.store.now) c.args.table.now.generation (columns_of c.args.table.now.schema) c.args.from c.args.to (g.K.Store.reads c.args.store.now) (g.K.Store.reads c.load_footer.new.store)
+    c.in-Err.ensures.reads
+
+pub returns-in-Ok-scan_between-clause-reads : goal.returns-in-Ok-scan_between-clause-reads
+returns-in-Ok-scan_between-clause-reads g c =
+    begun_within (g.K.Store.files c.args.store.now) (g.K.Store.files c.load_footer.new.store) (g.K.Store.files c.scan_between.new.store) c.args.table.now c.load_footer.new.self c.scan_between.new.self c.args.from c.args.to
+    c.in-Ok-scan_between.scan (g.K.Store.reads c.args.store.now) (g.K.Store.reads c.load_footer.new.store) (g.K.Store.reads c.scan_between.new.store) (g.K.Store.reads c.print_scan.new.store)
+    c.in-Ok.ensures.files c.in-Ok-scan_between.ensures.files c.in-Ok.ensures.same c.in-Ok-scan_between.ensures.same c.in-Ok.ensures.footer c.in-Ok.ensures.reads
+    c.in-Ok-scan_between.ensures.within c.in-Ok-scan_between.ensures.unread c.in-Ok-scan_between.ensures.begins c.print_scan.ensures.reads
+
+pub returns-in-Err-scan_between-clause-reads : goal.returns-in-Err-scan_between-clause-reads
+returns-in-Err-scan_between-clause-reads g c =
+    unbegun_within (g.K.Store.files c.args.store.now) (g.K.Store.files c.load_footer.new.store) c.args.table.now c.load_footer.new.self c.args.from c.args.to (g.K.Store.reads c.args.store.now)
+    (g.K.Store.reads c.load_footer.new.store) (g.K.Store.reads c.scan_between.new.store) c.in-Ok.ensures.files c.in-Ok.ensures.same c.in-Ok.ensures.footer c.in-Ok.ensures.reads
+    c.in-Err-scan_between.ensures.within c.in-Err-scan_between.ensures.unread

@@ -6,8 +6,9 @@ use Rattle.data_file.specs.Reading.{BeginsHead, NoHead}
 use Rattle.key_types.specs.Columns.{columns_of}
 use Rattle.table_reader.specs.declared.walker.EntryStrings.{EntryStrings}
 use Rattle.table_reader.specs.Parts.{GivesStatic, IsStaticPartBehind, NoStaticPartBehind}
-use Rattle.table_reader.specs.Ranges.{inside_of}
-use Rattle.table_reader.proofs.ScanSteps.{bad_head, bad_part, enters_giving, enters_passing, is_outside, moves_head, room_there, static_above}
+use Rattle.table_reader.specs.Ranges.{IsBelow, inside_of}
+use Rattle.table_reader.specs.StepsOver.{IsAny}
+use Rattle.table_reader.proofs.ScanSteps.{bad_head, bad_part, enters_giving, enters_passing, any_static, is_outside, moves_head, room_there, static_above, static_lies_below}
 use Rattle.table_reader.proofs.walker.Walker.enter.Goals as goal
 
 pub returns-in_default : goal.returns-in_default
@@ -53,14 +54,16 @@ returns-in_default-given c =
     let begins : BeginsHead columns c.unread-bytes.result.now key = search rules in
     let part : IsStaticPartBehind columns (drop head c.unread-bytes.result.now) static_part count = search rules in
     let long : head ≡ length (head_bytes key) = omega arith in
-    let moves = moves_head columns walk.window c.pass.new.self (head + count) (inside_of walk) key static_part count
+    let none : c.in_ok-given.given ≡ None = search rules in
+    let given = subst (λ (o : Option EntryStrings). GivesStatic walk.from key static_part o) none c.in_ok-given.ensures in
+    let moves = moves_head columns (IsBelow walk.from) walk.window c.pass.new.self (head + count) (inside_of walk) key static_part count
     (room_there walk.window _ c.unread-bytes.ensures.bytes c.unread-bytes.ensures.inside) (is_outside walk c.requires.outside) c.pass.ensures (omega arith)
     (subst (λ (b : List ℕ). BeginsHead columns b key) c.unread-bytes.ensures.bytes begins)
     (subst (λ (b : List ℕ). IsStaticPartBehind columns (drop (length (head_bytes key)) b) static_part count) c.unread-bytes.ensures.bytes
-    (subst (λ (n : ℕ). IsStaticPartBehind columns (drop n c.unread-bytes.result.now) static_part count) long part)) in
+    (subst (λ (n : ℕ). IsStaticPartBehind columns (drop n c.unread-bytes.result.now) static_part count) long part))
+    (static_lies_below columns walk.from key static_part given) in
     let same : c.extend.new.self ≡ key = c.in_ok-extend.ensures.ok ∙ ap (λ (l : List ℕ). l ++ key) c.truncate.ensures in
-    let none : c.in_ok-given.given ≡ None = search rules in
-    enters_passing columns walk c.pass.new.self key c.extend.new.self static_part same begins.0 (subst (λ (o : Option EntryStrings). GivesStatic walk.from key static_part o) none c.in_ok-given.ensures) moves
+    enters_passing columns walk c.pass.new.self key c.extend.new.self static_part same begins.0 given moves
 
 pub returns : goal.returns
 returns c =
@@ -73,11 +76,12 @@ returns c =
     let begins : BeginsHead columns c.unread-bytes.result.now key = search rules in
     let part : IsStaticPartBehind columns (drop head c.unread-bytes.result.now) static_part count = search rules in
     let long : head ≡ length (head_bytes key) = omega arith in
-    let moves = moves_head columns walk.window c.pass.new.self (head + count) (inside_of walk) key static_part count
+    let moves = moves_head columns IsAny walk.window c.pass.new.self (head + count) (inside_of walk) key static_part count
     (room_there walk.window _ c.unread-bytes.ensures.bytes c.unread-bytes.ensures.inside) (is_outside walk c.requires.outside) c.pass.ensures (omega arith)
     (subst (λ (b : List ℕ). BeginsHead columns b key) c.unread-bytes.ensures.bytes begins)
     (subst (λ (b : List ℕ). IsStaticPartBehind columns (drop (length (head_bytes key)) b) static_part count) c.unread-bytes.ensures.bytes
-    (subst (λ (n : ℕ). IsStaticPartBehind columns (drop n c.unread-bytes.result.now) static_part count) long part)) in
+    (subst (λ (n : ℕ). IsStaticPartBehind columns (drop n c.unread-bytes.result.now) static_part count) long part))
+    (any_static columns key static_part) in
     let same : c.extend.new.self ≡ key = c.in_ok-extend.ensures.ok ∙ ap (λ (l : List ℕ). l ++ key) c.truncate.ensures in
     enters_giving columns walk c.pass.new.self key c.extend.new.self static_part c.in-Some-given.entry same begins.0
     (subst (λ (o : Option EntryStrings). GivesStatic walk.from key static_part o) c.in-Some-given.is c.in_ok-given.ensures)
