@@ -1,0 +1,4 @@
+pub mod Refusals
+pub mod DataWalk
+pub mod Passed
+pub mod Ahead

@@ -1,0 +1,5 @@
+pub mod Walked
+pub mod Listed
+pub mod Indexed
+pub mod Beside
+pub mod Turns

@@ -1,0 +1,9 @@
+pub mod Spelled
+pub mod Sought
+pub mod Beside
+pub mod Compared
+pub mod Numbered
+pub mod Entered
+pub mod Once
+pub mod BlocksJudged
+pub mod EntriesJudged

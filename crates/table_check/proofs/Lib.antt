@@ -1,0 +1,10 @@
+pub mod Once
+pub mod Numbers
+pub mod Footed
+pub mod Mapped
+pub mod Standing
+pub mod Stood
+pub mod Judged
+pub mod Joined
+pub mod Laws
+pub mod Answered
