@@ -19,6 +19,10 @@ get = with (new_shape (codes "get")) (word (codes "key"))
 abbrev pub scan : Shape
 scan = with_options (new_shape (codes "scan")) (codes "from" ∷ codes "to" ∷ [])
 
+-- `check`
+abbrev pub check : Shape
+check = new_shape (codes "check")
+
 -- `key --schema S`, with `--encode L`, `--decode H` and `--clustering` each there or not
 abbrev pub key : Shape
 key = with (with_options (with_required (new_shape (codes "key")) (codes "schema" ∷ [])) (codes "encode" ∷ codes "decode" ∷ [])) (flag (codes "clustering"))
@@ -42,4 +46,4 @@ bare = record {
 
 -- the command line: its commands
 abbrev pub tool : App
-tool = with_commands bare (list ∷ load ∷ get ∷ scan ∷ key ∷ gen ∷ [])
+tool = with_commands bare (list ∷ load ∷ get ∷ scan ∷ check ∷ key ∷ gen ∷ [])

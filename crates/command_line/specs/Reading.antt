@@ -9,7 +9,7 @@ use Rattle.clap.specs.Kinds.{Kinds}
 use Rattle.clap.specs.Faults.{fault_of}
 use Rattle.command_line.specs.Grammar.{tool}
 use Rattle.command_line.specs.Numbers.{cells_in, needed_number, readers_in, rows_and_gets}
-use Rattle.command_line.specs.Said.{Said, Way, list, load, get, scan, key, gen, encode, decode}
+use Rattle.command_line.specs.Said.{Said, Way, list, load, get, scan, check, key, gen, encode, decode}
 use Rattle.command_line.specs.declared.command.WordsError.{WordsError}
 use Rattle.command_line.specs.declared.command.WordsError.TheVariants.{Usage}
 
@@ -100,8 +100,9 @@ said_by name rows = if bytes_eq name (codes "list") then list_in rows
     else (if bytes_eq name (codes "load") then load_in rows
     else (if bytes_eq name (codes "get") then get_in rows
     else (if bytes_eq name (codes "scan") then scan_in rows
+    else (if bytes_eq name (codes "check") then Ok check
     else (if bytes_eq name (codes "key") then key_in rows
-    else (if bytes_eq name (codes "gen") then gen_in rows else Err Usage)))))
+    else (if bytes_eq name (codes "gen") then gen_in rows else Err Usage))))))
 
 -- what the words that were found say
 abbrev pub said_in : Result (Option (Text × List Row)) WordsError → Result Said WordsError

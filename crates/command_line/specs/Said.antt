@@ -20,6 +20,7 @@ pub data Said : Type 0 where
   load : (schema bounds : Text) → (cells readers : ℕ) → Said
   get : (key : Text) → Said
   scan : (from to : Option Text) → Said
+  check : Said
   key : (schema : Text) → (clustering : Bool) → (way : Way) → Said
   gen : (seed count gets : ℕ) → (print : Bool) → (cells readers : ℕ) → Said
 
@@ -34,6 +35,7 @@ said_of (command.List arguments) = list (string_bytes arguments.schema) argument
 said_of (command.Load arguments) = load (string_bytes arguments.schema) (string_bytes arguments.bounds) arguments.cells arguments.readers
 said_of (command.Get arguments) = get (string_bytes arguments.key)
 said_of (command.Scan arguments) = scan (option_map string_bytes arguments.from) (option_map string_bytes arguments.to)
+said_of command.Check = check
 said_of (command.Key arguments) = key (string_bytes arguments.schema) arguments.clustering (way_of arguments.way)
 said_of (command.Gen arguments) =
     gen arguments.seed arguments.count arguments.gets arguments.print arguments.cells arguments.readers
@@ -56,6 +58,7 @@ IsLimited (command.List arguments) = AreCells arguments.cells
 IsLimited (command.Load arguments) = AreCells arguments.cells × AreReaders arguments.readers
 IsLimited (command.Get arguments) = Unit {0}
 IsLimited (command.Scan arguments) = Unit {0}
+IsLimited command.Check = Unit {0}
 IsLimited (command.Key arguments) = Unit {0}
 IsLimited (command.Gen arguments) =
     AreRows arguments.count arguments.gets × AreCells arguments.cells × AreReaders arguments.readers

@@ -88,6 +88,8 @@ pub enum Command {
     Get(GetArguments),
     /// `scan [--from B] [--to B]`
     Scan(ScanArguments),
+    /// `check`
+    Check,
     /// `gen --seed s --count n [--gets g] --print` or `.. [--cells n] [--readers n]`
     Gen(GenArguments),
     /// `key --schema S [--clustering] --encode L` or `.. --decode H`

@@ -163,10 +163,11 @@ fn with_scripts<'a>(alloc: Global, tool: Command<'a>) -> Result<Command<'a>, All
 
 /// The command line with the commands that read tables, after its others.
 fn with_tables<'a>(alloc: Global, tool: Command<'a>) -> Result<Command<'a>, AllocError>
-    ensures { IfOk result (λ c. app_of c ≡ form.with_commands (app_of tool.entry) (grammar.get ∷ grammar.scan ∷ [])) }
+    ensures { IfOk result (λ c. app_of c ≡ form.with_commands (app_of tool.entry) (grammar.get ∷ grammar.scan ∷ grammar.check ∷ [])) }
 {
     let tool = with_command(tool, get(alloc)?)?;
-    with_command(tool, scan(alloc)?)
+    let tool = with_command(tool, scan(alloc)?)?;
+    with_command(tool, Command::new(alloc, "check"))
 }
 
 /// The command line, with its commands.

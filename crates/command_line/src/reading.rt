@@ -142,6 +142,7 @@ fn command(alloc: Global, name: &str, matches: &ArgMatches) -> Result<Command, W
         "load" => load(alloc, matches),
         "get" => get(alloc, matches),
         "scan" => scan(alloc, matches),
+        "check" => Ok(Command::Check),
         "key" => key(alloc, matches),
         "gen" => generate(matches),
         _ => Err(WordsError::Usage),

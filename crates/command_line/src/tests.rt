@@ -73,6 +73,7 @@ fn said_by(alloc: Global, words: &[&str]) -> Result<String, AllocError> {
         }
         Ok(Command::Get(arguments)) => Ok(arguments.key),
         Ok(Command::Scan(arguments)) => range_said(alloc, arguments),
+        Ok(Command::Check) => String::from_str(alloc, "check"),
         Ok(Command::Key(arguments)) => key_said(alloc, arguments),
         Ok(Command::Gen(arguments)) => gen_said(alloc, arguments),
         Err(WordsError::Usage) => String::from_str(alloc, "usage"),
@@ -83,7 +84,7 @@ fn said_by(alloc: Global, words: &[&str]) -> Result<String, AllocError> {
 #[test]
 fn takes_the_commands(rt: HostRuntime) -> Result<(), AllocError> {
     let alloc = rt.alloc();
-    let table: [(&[&str], &str); 25] = [
+    let table: [(&[&str], &str); 26] = [
         (
             &["list", "--schema", "(int; ; text)"],
             "(int; ; text) 262144",
@@ -110,6 +111,7 @@ fn takes_the_commands(rt: HostRuntime) -> Result<(), AllocError> {
         (&["scan"], "- -"),
         (&["scan", "--to", "(2)", "--from=(1) (3)"], "(1) (3) (2)"),
         (&["scan", "--from=--x"], "--x -"),
+        (&["check"], "check"),
         (
             &["gen", "--seed", "0", "--count=1", "--print"],
             "0 1 0 true 262144 2",
@@ -154,7 +156,7 @@ fn takes_the_commands(rt: HostRuntime) -> Result<(), AllocError> {
 #[test]
 fn refuses_other_words(rt: HostRuntime) -> Result<(), AllocError> {
     let alloc = rt.alloc();
-    let table: [&[&str]; 60] = [
+    let table: [&[&str]; 62] = [
         &[],
         &[""],
         &["list"],
@@ -186,6 +188,8 @@ fn refuses_other_words(rt: HostRuntime) -> Result<(), AllocError> {
         &["scan", "list"],
         &["scan", "--from", "(1)", "--from", "(1)"],
         &["scan", "--to"],
+        &["check", "(1)"],
+        &["check", "--schema", "s"],
         &["get"],
         &["get", "(1)", "(2)"],
         &["get", "-1"],

@@ -27,6 +27,7 @@ either expected (status.Damaged damage) is = inl is
 either expected status.Unfinished is = inl is
 either expected status.Exists is = inl is
 either expected status.TooLarge is = inl is
+either expected (status.Unsound mismatch) is = inl is
 
 -- and so it is with a prefix of what is held behind it
 pub cut_prefix : (written between written' : Option (List ℕ)) (pushed text lines : List ℕ) → pushed ++ text ≡ lines → WhereTold written between (λ before after. after ≡ before ++ pushed)
@@ -61,4 +62,5 @@ module _ (sink mid sink' : ℕ) (before : sink ≤ mid) where
   says_earlier status.Unfinished x y is = says_from (fault_line status.Unfinished) x y is
   says_earlier status.Exists x y is = says_from (fault_line status.Exists) x y is
   says_earlier status.TooLarge x y is = says_from (fault_line status.TooLarge) x y is
+  says_earlier (status.Unsound mismatch) x y is = says_from (fault_line (status.Unsound mismatch)) x y is
   says_earlier status.NoMemory x y is = is

@@ -80,6 +80,7 @@ module _ (bytes : List ℕ) (asked : LoadAsked) (left left' : Option (List ℕ))
     faults_by status.Unfinished f = tt
     faults_by status.Exists f = tt
     faults_by status.TooLarge f = tt
+    faults_by (status.Unsound mismatch) f = tt
     faults_by status.NoMemory f = tt
 
     gen_ends : GenEnds bytes asked before after result
@@ -123,6 +124,7 @@ module _ (bytes : List ℕ) (asked : LoadAsked) (left left' : Option (List ℕ))
     refusal_written status.Unfinished stops sunk unread x y says = absurd stops
     refusal_written status.Exists stops sunk unread x y says = says
     refusal_written status.TooLarge stops sunk unread x y says = says
+    refusal_written (status.Unsound mismatch) stops sunk unread x y says = absurd stops
     refusal_written status.NoMemory stops sunk unread x y says = says
 
     pub refusal_ends : (result : Status) → IsOrNoMemory s result → WhereTold w w' (SaysRefusal result sink sink') → GenEnds bytes asked before after result

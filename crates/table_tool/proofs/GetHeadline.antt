@@ -1,11 +1,10 @@
 -- A `get` over the files of a `load` that was Ok.
-use Rattle.std.proofs.Common.{◌≡◌, ℕ, List, ◌++◌, Option, None, Some, Result, Ok, Err, sym, ◌∙◌, ap, subst}
+use Rattle.std.proofs.Common.{◌≡◌, List, ◌++◌, ℕ, Option, Some, Result, Ok, Err, ◌∙◌, ap, subst}
 use Rattle.std.specs.Prelude.{IfSome}
 use Rattle.std.specs.FinMap as map
 use Rattle.outside.specs.Files.{Files}
 use Rattle.outside.specs.Told.{WhereTold}
 use Rattle.key_types.specs.Columns.{Columns}
-use Rattle.key_types.specs.Kinds.{Vals}
 use Rattle.key_types.specs.Table.{Table}
 use Rattle.script_text.specs.Puts.{Put}
 use Rattle.script_text.specs.Script.{puts_of}
@@ -14,10 +13,10 @@ use Rattle.table_reader.specs.Laws.{string_of_key}
 use Rattle.get_tool.specs.declared.asked.AskedKey.{AskedKey}
 use Rattle.get_tool.specs.declared.error.GetError.{GetError}
 use Rattle.get_tool.specs.declared.error.GetError.TheVariants as get_error
-use Rattle.get_tool.specs.Asked.{AreStringsOf, IsWithinOf, KeyText, NamesKey}
+use Rattle.get_tool.specs.Asked.{NamesKey}
 use Rattle.get_tool.specs.Laws.{ShowsOf}
 use Rattle.get_tool.specs.Shown.{found_line}
-use Rattle.key_text.specs.Marking.{Marked}
+use Rattle.get_tool.proofs.ShowReads.{one_key}
 use Rattle.table_tool.specs.declared.status.Status.{Status}
 use Rattle.table_tool.specs.declared.status.Status.TheVariants as status
 use Rattle.table_tool.specs.First.{first_generation}
@@ -28,22 +27,6 @@ use Rattle.table_tool.specs.Outside.{Outside, SinkFails, StoreFails}
 use Rattle.table_tool.specs.Rows.{table_put}
 use Rattle.table_tool.proofs.Headline.{done, said, stands, taken}
 use Rattle.table_tool.proofs.Told.{told_so}
-
--- ---- a text names one key
-
-same_within : (columns : Columns) (key : Option Vals) (a b : Option (List ℕ)) → IsWithinOf columns key a → IsWithinOf columns key b → a ≡ b
-same_within columns None a b is also = is ∙ sym also
-same_within columns (Some components) a b is also = is ∙ sym also
-
-one_key : (columns : Columns) (text : List ℕ) (a b : AskedKey) → NamesKey columns text a → NamesKey columns text b → a ≡ b
-one_key columns text a b is also =
-    let both : ◌≡◌ {A = Result (Marked KeyText) ℕ} (Ok (is.components, None)) (Ok (also.components, None)) = sym is.read ∙ also.read in
-    let pairs : ◌≡◌ {A = Marked KeyText} (is.components, None) (also.components, None) = cc in
-    let same : is.components ≡ also.components = ap (λ (p : Marked KeyText). p.0) pairs in
-    let strings = subst (λ (k : KeyText). AreStringsOf columns k a) same is.strings in
-    let partition : a.partition ≡ b.partition = strings.0 ∙ sym also.strings.0 in
-    let clustering : a.clustering ≡ b.clustering = same_within columns also.components.1 a.clustering b.clustering strings.1 also.strings.1 in
-    λ i. record { partition = partition i; clustering = clustering i }
 
 -- ---- what is printed
 

@@ -6,6 +6,7 @@ use Rattle.outside.specs.Files.{Files}
 use Rattle.get_tool.specs.declared.error.GetError.{GetError}
 use Rattle.get_tool.specs.declared.error.GetError.TheVariants as get_error
 use Rattle.get_tool.specs.Laws.{ShowsMap, ShowsOf}
+use Rattle.get_tool.specs.ShowReads.{ShowsWithin}
 use Rattle.get_tool.specs.Shown.{Shows}
 use Rattle.get_tool.proofs.Shown.{shows_map}
 use Rattle.table_tool.specs.declared.status.Status.{Status}
@@ -28,6 +29,14 @@ never result s other is sunk = by (either s result is)
     by (inl e) = other (sym e ∙ sunk)
     by (inr e) = let both = sym e ∙ sunk in cc
 
+-- what holds of a status, and of want of memory, holds of a result that is one of the two
+pub by_result : (result : Status) (P : Status → Type 0) → P status.NoMemory → (s : Status) → P s → IsOrNoMemory s result → P result
+by_result result P memory s p is = by (either s result is)
+  where
+    by : (result ≡ s) ⊎ (result ≡ status.NoMemory) → P result
+    by (inl e) = subst P (sym e) p
+    by (inr e) = subst P (sym e) memory
+
 module _ (left : Option (List ℕ)) (source : ℕ) (w w' : Option (List ℕ)) (sink sink' : ℕ) (files files' : Option Files) (store store' reads reads' : ℕ) where
   abbrev before : Outside
   before = outside_of left source w sink files store reads
@@ -37,14 +46,8 @@ module _ (left : Option (List ℕ)) (source : ℕ) (w w' : Option (List ℕ)) (s
 
   module _ (text : List ℕ) (shown : Result (List ℕ) GetError) (result : Status) (all : IfSome files (λ m. Shows m first_generation text shown))
       (ended : ShowsAs shown before after result) (same : files' ≡ files)
-      (rose : shown ≡ Err get_error.StoreFault → Rose store store') (sunk : result ≡ status.SinkFault → Rose sink sink') where
-    by_result : (P : Status → Type 0) → P status.NoMemory → (s : Status) → P s → IsOrNoMemory s result → P result
-    by_result P memory s p is = by (either s result is)
-      where
-        by : (result ≡ s) ⊎ (result ≡ status.NoMemory) → P result
-        by (inl e) = subst P (sym e) p
-        by (inr e) = subst P (sym e) memory
-
+      (rose : shown ≡ Err get_error.StoreFault → Rose store store') (sunk : result ≡ status.SinkFault → Rose sink sink')
+      (within : IfSome files (λ m. ShowsWithin m first_generation text reads reads')) where
     -- what a line ends with
     by_line : (P : Status → Type 0) → P status.Ok → (result ≡ status.SinkFault → P status.SinkFault) → (result ≡ status.Ok) ⊎ (result ≡ status.SinkFault) → P result
     by_line P ok failed (inl e) = subst P (sym e) ok
@@ -52,18 +55,18 @@ module _ (left : Option (List ℕ)) (source : ℕ) (w w' : Option (List ℕ)) (s
 
     possible_by : (r : Result (List ℕ) GetError) → EndsShown r result → IsOfGet result
     possible_by (Ok line) ends = by_line IsOfGet tt (λ e. tt) ends
-    possible_by (Err get_error.Usage) ends = by_result IsOfGet tt status.Usage tt ends
-    possible_by (Err get_error.StoreFault) ends = by_result IsOfGet tt status.StoreFault tt ends
-    possible_by (Err (get_error.Damaged damage)) ends = by_result IsOfGet tt (status.Damaged damage) tt ends
-    possible_by (Err get_error.Unfinished) ends = by_result IsOfGet tt status.Unfinished tt ends
+    possible_by (Err get_error.Usage) ends = by_result result IsOfGet tt status.Usage tt ends
+    possible_by (Err get_error.StoreFault) ends = by_result result IsOfGet tt status.StoreFault tt ends
+    possible_by (Err (get_error.Damaged damage)) ends = by_result result IsOfGet tt (status.Damaged damage) tt ends
+    possible_by (Err get_error.Unfinished) ends = by_result result IsOfGet tt status.Unfinished tt ends
     possible_by (Err get_error.NoMemory) ends = subst IsOfGet (sym ends) tt
 
     faults_by : (r : Result (List ℕ) GetError) → shown ≡ r → EndsShown r result → FaultRose before after result
     faults_by (Ok line) is ends = by_line (FaultRose before after) tt sunk ends
-    faults_by (Err get_error.Usage) is ends = by_result (FaultRose before after) tt status.Usage tt ends
-    faults_by (Err get_error.StoreFault) is ends = by_result (FaultRose before after) tt status.StoreFault (rose is) ends
-    faults_by (Err (get_error.Damaged damage)) is ends = by_result (FaultRose before after) tt (status.Damaged damage) tt ends
-    faults_by (Err get_error.Unfinished) is ends = by_result (FaultRose before after) tt status.Unfinished tt ends
+    faults_by (Err get_error.Usage) is ends = by_result result (FaultRose before after) tt status.Usage tt ends
+    faults_by (Err get_error.StoreFault) is ends = by_result result (FaultRose before after) tt status.StoreFault (rose is) ends
+    faults_by (Err (get_error.Damaged damage)) is ends = by_result result (FaultRose before after) tt (status.Damaged damage) tt ends
+    faults_by (Err get_error.Unfinished) is ends = by_result result (FaultRose before after) tt status.Unfinished tt ends
     faults_by (Err get_error.NoMemory) is ends = subst (FaultRose before after) (sym ends) tt
 
     -- over files that stand for a map and a text that names a key, all that is left besides Ok are faults
@@ -85,6 +88,7 @@ module _ (left : Option (List ℕ)) (source : ℕ) (w w' : Option (List ℕ)) (s
       shown = (shown, all, ended);
       stand = if_so files _ _ (λ m is columns table stand. (shown, shows m first_generation columns table text shown stand is, ended)) all;
       complete = if_so files _ _ named all;
+      reads = within;
       source = (refl, refl);
       files = same;
     }

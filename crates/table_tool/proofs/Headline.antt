@@ -25,7 +25,8 @@ use Rattle.table_tool.specs.Laws.{AnswersAllGets, HeadlineOfFiles, HeadlineOfRea
 use Rattle.table_tool.specs.Loading.{LoadAsked, LoadEnds, Loaded, WritesLoad, loading, loading_of}
 use Rattle.table_tool.specs.Outcome.{IsOrNoMemory}
 use Rattle.table_tool.specs.Outside.{Outside, SinkFails, StoreFails}
-use Rattle.key_types.specs.Table.{Entry}
+use Rattle.key_types.specs.Table.{Entry, Table}
+use Rattle.std.specs.FinMap as map
 use Rattle.key_types.specs.Kinds.{Vals}
 use Rattle.byte_comparable.specs.Order.{Key, KeyFits, within_string}
 use Rattle.script_text.specs.Laws.{AreOfKeys, HasKey}
@@ -120,18 +121,18 @@ same_end columns side (Some text) (Some a) (Some b) is also = ap Some (one_bound
 
 -- ---- what a scan over the files prints
 
-module _ (columns : Columns) (files : Files) (puts : List Put) (from to : Option (List ℕ)) (lower upper : Option BoundString)
+module _ (columns : Columns) (files : Files) (table : Table) (from to : Option (List ℕ)) (lower upper : Option BoundString)
     (first : NamesEnd columns Before from lower) (second : NamesEnd columns After to upper)
     (before after : Outside) (result : Status) (told : before.files ≡ Some files) (ends : ScanEnds from to before after result)
-    (stand : StandFor files first_generation columns (table_put puts)) where
+    (stand : StandFor files first_generation columns table) where
   abbrev rows : List Entry
-  rows = range_of lower upper (rows_of puts)
+  rows = range_of lower upper (map.entries table)
 
-  range_printed : (printed : Result ⊤ ScanError) (between : Option (List ℕ)) → PrintsOf columns (table_put puts) from to before.written between printed
+  range_printed : (printed : Result ⊤ ScanError) (between : Option (List ℕ)) → PrintsOf columns table from to before.written between printed
       → EndsAs printed between before after status.Ok → WhereTold before.written after.written (λ old new. new ≡ old ++ rows_text columns rows)
   range_printed (Ok x) between (lower', upper', first', second', told') ended =
-      let same = ap (λ (b : Option BoundString). range_of b upper' (rows_of puts)) (same_end columns Before from lower' lower first' first)
-      ∙ ap (λ (b : Option BoundString). range_of lower b (rows_of puts)) (same_end columns After to upper' upper second' second) in
+      let same = ap (λ (b : Option BoundString). range_of b upper' (map.entries table)) (same_end columns Before from lower' lower first' first)
+      ∙ ap (λ (b : Option BoundString). range_of lower b (map.entries table)) (same_end columns After to upper' upper second' second) in
       told_then before.written between after.written _ _ _
       (λ x y z is e. e ∙ is ∙ ap (λ (es : List Entry). x ++ rows_text columns es) same) told' ended.behind
   range_printed (Err scan_error.Usage) between is ended = absurd (let e = ended.ends in cc)
@@ -141,22 +142,25 @@ module _ (columns : Columns) (files : Files) (puts : List Put) (from to : Option
   range_printed (Err scan_error.Unfinished) between is ended = absurd is
   range_printed (Err scan_error.NoMemory) between is ended = absurd (let e = ended.ends in cc)
 
-  well : ¬ (StoreFails before after) → ¬ (SinkFails before after) → IsOrNoMemory status.Ok result
+  pub well : ¬ (StoreFails before after) → ¬ (SinkFails before after) → IsOrNoMemory status.Ok result
   well =
-      subst (λ (o : Option Files). IfSome o (λ m. ScansNamed from to m before after result)) told ends.complete columns (table_put puts) stand (lower, upper, first, second)
+      subst (λ (o : Option Files). IfSome o (λ m. ScansNamed from to m before after result)) told ends.complete columns table stand (lower, upper, first, second)
 
-  all_printed : result ≡ status.Ok → WhereTold before.written after.written (λ old new. new ≡ old ++ rows_text columns rows)
+  pub all_printed : result ≡ status.Ok → WhereTold before.written after.written (λ old new. new ≡ old ++ rows_text columns rows)
   all_printed ok =
-      let all = subst (λ (o : Option Files). IfSome o (λ m. ScansOfMap from to m before after result)) told ends.stand columns (table_put puts) stand in
+      let all = subst (λ (o : Option Files). IfSome o (λ m. ScansOfMap from to m before after result)) told ends.stand columns table stand in
       range_printed all.0 all.1 all.2 (subst (λ (r : Status). EndsAs all.0 all.1 before after r) ok all.3)
 
-  all_puts : (readers : ℕ) (bytes : List ℕ) (lines : List Line) → AreAcceptedLines columns readers 1 0 (lines_of bytes) lines → puts ≡ puts_of (batches_of lines)
+  -- where the map is that of the puts of a script
+  all_puts : (puts : List Put) → table ≡ table_put puts → (readers : ℕ) (bytes : List ℕ) (lines : List Line)
+      → AreAcceptedLines columns readers 1 0 (lines_of bytes) lines → puts ≡ puts_of (batches_of lines)
       → IsTableText columns rows (rows_text columns rows) → PrintsAllPuts columns readers bytes lower upper before after result
-  all_puts readers bytes lines are of text = record {
+  all_puts puts is_put readers bytes lines are of text = record {
     lines = lines;
     accepted = are;
     printed = λ ok. told_so before.written after.written _ _
-        (λ old new is. (rows_text columns rows, subst (λ (ps : List Put). IsTableText columns (range_of lower upper (rows_of ps)) (rows_text columns rows)) of text, is)) (all_printed ok);
+        (λ old new is. (rows_text columns rows, subst (λ (t : Table). IsTableText columns (range_of lower upper (map.entries t)) (rows_text columns rows)) (is_put ∙ ap table_put of) text, is))
+        (all_printed ok);
     complete = well;
   }
 
@@ -208,6 +212,6 @@ files_scanned words words' asked bytes files from to lower upper before between 
     let script = done asked bytes before between left ends in
     let is = taken asked bytes before between left ends in
     let lines = said asked.columns asked.readers bytes script.0 is in
-    all_puts asked.columns files (puts_of script.0.batches) from to lower upper first' second' between' after result also (second.scan from to ask')
-    (stands asked bytes before between left ends files there) asked.readers bytes lines.0 lines.1
+    all_puts asked.columns files (table_put (puts_of script.0.batches)) from to lower upper first' second' between' after result also (second.scan from to ask')
+    (stands asked bytes before between left ends files there) (puts_of script.0.batches) refl asked.readers bytes lines.0 lines.1
     (ap puts_of lines.2) (table_text asked.columns asked.readers bytes script.0 is lower upper)

@@ -11,9 +11,11 @@ pub mod Told
 mod RunLemmas
 mod Headline
 mod GetHeadline
+mod CheckHeadline
 mod ListLemmas
 mod RunPuts
 mod LoadLemmas
 mod GetLemmas
+mod CheckLemmas
 mod GenLemmas
 mod Generated

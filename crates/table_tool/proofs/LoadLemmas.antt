@@ -58,6 +58,7 @@ refused_one asked bytes (status.Damaged damage) early is = absurd early
 refused_one asked bytes status.Unfinished early is = absurd early
 refused_one asked bytes status.Exists early is = absurd early
 refused_one asked bytes status.TooLarge early is = ap loading_of is
+refused_one asked bytes (status.Unsound mismatch) early is = absurd early
 refused_one asked bytes status.NoMemory early is = tt
 
 pub of_refusal : (asked : LoadAsked) (left : Option (List ℕ)) (s : Status) → EndsEarly s
@@ -78,6 +79,7 @@ quiet_one asked expected (status.Damaged damage) early x = absurd early
 quiet_one asked expected status.Unfinished early x = absurd early
 quiet_one asked expected status.Exists early x = absurd early
 quiet_one asked expected status.TooLarge early x = refl
+quiet_one asked expected (status.Unsound mismatch) early x = absurd early
 quiet_one asked expected status.NoMemory early x = ([], inl refl, sym (append-nil x))
 
 pub quiet : (asked : LoadAsked) (left w : Option (List ℕ)) (s : Status) → EndsEarly s → IfSome left (λ bytes. WhereTold w w (Answers asked (Err s) (loading asked bytes)))
@@ -96,6 +98,7 @@ early_stops (status.Damaged damage) early = absurd early
 early_stops status.Unfinished early = absurd early
 early_stops status.Exists early = absurd early
 early_stops status.TooLarge early = tt
+early_stops (status.Unsound mismatch) early = absurd early
 early_stops status.NoMemory early = tt
 
 -- it is not that a shard is full
@@ -115,6 +118,7 @@ early_keeps (status.Damaged damage) files early = absurd early
 early_keeps status.Unfinished files early = absurd early
 early_keeps status.Exists files early = absurd early
 early_keeps status.TooLarge files early = refl
+early_keeps (status.Unsound mismatch) files early = absurd early
 early_keeps status.NoMemory files early = tt
 
 -- a store that failed before the batches has nothing written before its line
@@ -275,6 +279,7 @@ module _ (asked : LoadAsked) (left left' : Option (List ℕ)) (source source' : 
         by status.Unfinished stops a sunk = absurd stops
         by status.Exists stops a sunk = ([], inl refl, a ∙ sym (append-nil x))
         by status.TooLarge stops a sunk = ([], inl refl, a ∙ sym (append-nil x))
+        by (status.Unsound mismatch) stops a sunk = absurd stops
         by status.NoMemory stops a sunk = a
 
     -- what is written with the fault line
@@ -303,6 +308,7 @@ module _ (asked : LoadAsked) (left left' : Option (List ℕ)) (source source' : 
         by status.Unfinished stops a l says sunk = absurd stops
         by status.Exists stops a l says sunk = at_once (fault_line status.Exists) a says
         by status.TooLarge stops a l says sunk = at_once (fault_line status.TooLarge) a says
+        by (status.Unsound mismatch) stops a l says sunk = absurd stops
         by status.NoMemory stops a l says sunk = (a.0, a.1, says ∙ a.2)
 
     -- what is expected is that status, or a shard is full, or an object failed
@@ -330,6 +336,7 @@ module _ (asked : LoadAsked) (left left' : Option (List ℕ)) (source source' : 
         by status.Unfinished there a b c stops refused room none q1 q2 q3 l fits = absurd stops
         by status.Exists there a b c stops refused room none q1 q2 q3 l fits = let is : IsTrue (any_there first_generation old) = there refl in let both = sym is ∙ none in cc
         by status.TooLarge there a b c stops refused room none q1 q2 q3 l fits = sym (ap ended refused)
+        by (status.Unsound mismatch) there a b c stops refused room none q1 q2 q3 l fits = absurd stops
         by status.NoMemory there a b c stops refused room none q1 q2 q3 l fits = tt
 
     possible_one : (t : Status) → StopsLoad t → IsOfLoad t
@@ -345,6 +352,7 @@ module _ (asked : LoadAsked) (left left' : Option (List ℕ)) (source source' : 
     possible_one status.Unfinished stops = stops
     possible_one status.Exists stops = tt
     possible_one status.TooLarge stops = tt
+    possible_one (status.Unsound mismatch) stops = stops
     possible_one status.NoMemory stops = tt
 
     faults_one : sink1 ≤ sink2 → (t : Status) → s ≡ t → StopsLoad t → FaultRose before after t
@@ -360,6 +368,7 @@ module _ (asked : LoadAsked) (left left' : Option (List ℕ)) (source source' : 
     faults_one l status.Unfinished e stops = tt
     faults_one l status.Exists e stops = tt
     faults_one l status.TooLarge e stops = tt
+    faults_one l (status.Unsound mismatch) e stops = tt
     faults_one l status.NoMemory e stops = tt
 
     not_ok : s ≡ status.Ok → ⊥

@@ -6,7 +6,7 @@ use Rattle.std.specs.declared.alloc.Global.{Global}
 use Rattle.key_types.specs.Columns.{Columns}
 use Rattle.schema_text.proofs.Short.{short}
 use Rattle.schema_text.proofs.Unique.{one}
-use Rattle.command_line.specs.Said.{Said, Way, gen, get, key, list, load, scan}
+use Rattle.command_line.specs.Said.{Said, Way, check, gen, get, key, list, load, scan}
 use Rattle.command_line.specs.Reading.{command_of}
 use Rattle.command_line.specs.declared.command.WordsError.TheVariants as error
 use Rattle.command_line.specs.declared.command.WordsError.{WordsError}
@@ -19,7 +19,7 @@ use Rattle.command_line.specs.declared.command.KeyArguments.{KeyArguments}
 use Rattle.table_tool.specs.declared.request.GeneratedScript.{GeneratedScript}
 use Rattle.table_tool.specs.declared.request.Request.{Request}
 use Rattle.table_tool.specs.declared.request.Request.TheVariants as request
-use Rattle.table_tool.specs.Request.{AreRefused, AskGen, AskGet, AskKey, AskList, AskLoad, AskPrint, AskScan, Asks, IsNoSchema, IsSchemaOf, LoadsScript, ReadsKey, ReadsSchema, Say, SaysLoad, generated_bounds, generated_schema, part_kinds, said_way}
+use Rattle.table_tool.specs.Request.{AreRefused, AskCheck, AskGen, AskGet, AskKey, AskList, AskLoad, AskPrint, AskScan, Asks, IsNoSchema, IsSchemaOf, LoadsScript, ReadsKey, ReadsSchema, Say, SaysLoad, generated_bounds, generated_schema, part_kinds, said_way}
 use Rattle.key_types.specs.Kinds.{Kinds}
 use Rattle.key_tool.specs.declared.request.KeyWay.{KeyWay}
 use Rattle.key_tool.specs.declared.request.KeyWay.TheVariants.{Encode, Decode}
@@ -122,6 +122,7 @@ pub data Name : Type 0 where
   ToLoad : Name
   ToGet : Name
   ToScan : Name
+  ToCheck : Name
   ToKey : Name
   ToPrint : Name
   ToGen : Name
@@ -136,6 +137,7 @@ name_of (list schema cells) = ToList
 name_of (load schema bounds cells readers) = ToLoad
 name_of (get text) = ToGet
 name_of (scan from to) = ToScan
+name_of check = ToCheck
 name_of (key schema clustering way) = ToKey
 name_of (gen seed count gets print cells readers) = gen_name print
 
@@ -158,6 +160,9 @@ module _ (words : List (String Global)) where
 
   pub scan_names : (from to : Option (List ℕ)) → AskScan words from to → Names ToScan
   scan_names from to say = (scan from to, say, refl)
+
+  pub check_names : AskCheck words → Names ToCheck
+  check_names say = (check, say, refl)
 
   pub key_names : (kinds : Kinds) (way : KeyWay) (text : List ℕ) → AskKey words kinds way text → Names ToKey
   key_names kinds way text (schema, columns, clustering, say, is, of) = (key schema clustering (said_way way text), say, refl)
@@ -193,6 +198,9 @@ module _ (words : List (String Global)) where
   pub scan_not_refused : (from to : Option (List ℕ)) → AskScan words from to → AreRefused words → ⊥
   scan_not_refused from to say are =
       other_not_refused (scan from to) (λ text cells e. cc, λ text bounds cells readers e. cc, λ text clustering way e. cc) say are
+
+  pub check_not_refused : AskCheck words → AreRefused words → ⊥
+  check_not_refused say are = other_not_refused check (λ text cells e. cc, λ text bounds cells readers e. cc, λ text clustering way e. cc) say are
 
   pub print_not_refused : (script : GeneratedScript) → AskPrint words script → AreRefused words → ⊥
   print_not_refused script (cells, readers, say) are =
@@ -293,6 +301,7 @@ module _ (words : List (String Global)) where
   asks_key arguments (Ok (request.Load asked)) say reads = absurd reads
   asks_key arguments (Ok (request.Get text)) say reads = absurd reads
   asks_key arguments (Ok (request.Scan asked)) say reads = absurd reads
+  asks_key arguments (Ok request.Check) say reads = absurd reads
   asks_key arguments (Ok (request.Print script)) say reads = absurd reads
   asks_key arguments (Ok (request.Gen asked)) say reads = absurd reads
   asks_key arguments (Ok (request.Key asked)) say (columns, is, kinds, way) = (

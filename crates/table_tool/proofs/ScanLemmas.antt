@@ -8,6 +8,7 @@ use Rattle.key_types.specs.Table.{Table}
 use Rattle.scan_tool.specs.declared.error.ScanError.{ScanError}
 use Rattle.scan_tool.specs.declared.error.ScanError.TheVariants as scan_error
 use Rattle.scan_tool.specs.Laws.{PrintsMap, PrintsOf}
+use Rattle.scan_tool.specs.PrintReads.{PrintsWithin}
 use Rattle.scan_tool.specs.Printing.{PrintsRange}
 use Rattle.scan_tool.proofs.Ranged.{prints_map}
 use Rattle.table_tool.specs.declared.status.Status.{Status}
@@ -16,7 +17,7 @@ use Rattle.table_tool.specs.First.{first_generation}
 use Rattle.table_tool.specs.Outcome.{IsOrNoMemory}
 use Rattle.table_tool.specs.Outside.{FaultRose, Outside, outside_of}
 use Rattle.table_tool.specs.Scanning.{EndsAs, EndsRange, IsOfScan, NamesRange, ScanEnds, ScansNamed, ScansOfMap}
-use Rattle.table_tool.proofs.EndLemmas.{either}
+use Rattle.table_tool.proofs.GetLemmas.{by_result}
 
 of_map : PrintsMap
 of_map = prints_map
@@ -30,30 +31,24 @@ module _ (from to : Option (List ℕ)) (left : Option (List ℕ)) (source : ℕ)
   after = outside_of left source w2 sink' files' store' reads'
 
   module _ (printed : Result ⊤ ScanError) (result : Status) (range : PrintsRange files first_generation from to w w1 printed) (ended : EndsAs printed w1 before after result)
-      (same : files' ≡ files) (rose : printed ≡ Err scan_error.StoreFault → Rose store store') (sunk : printed ≡ Err scan_error.SinkFault → Rose sink sink') where
-    by_result : (P : Status → Type 0) → P status.NoMemory → (s : Status) → P s → IsOrNoMemory s result → P result
-    by_result P memory s p is = by (either s result is)
-      where
-        by : (result ≡ s) ⊎ (result ≡ status.NoMemory) → P result
-        by (inl e) = subst P (sym e) p
-        by (inr e) = subst P (sym e) memory
-
+      (same : files' ≡ files) (rose : printed ≡ Err scan_error.StoreFault → Rose store store') (sunk : printed ≡ Err scan_error.SinkFault → Rose sink sink')
+      (within : IfSome files (λ m. PrintsWithin m first_generation from to reads reads')) where
     possible_by : (r : Result ⊤ ScanError) → EndsRange r result → IsOfScan result
     possible_by (Ok x) ends = subst IsOfScan (sym ends) tt
-    possible_by (Err scan_error.Usage) ends = by_result IsOfScan tt status.Usage tt ends
+    possible_by (Err scan_error.Usage) ends = by_result result IsOfScan tt status.Usage tt ends
     possible_by (Err scan_error.SinkFault) ends = subst IsOfScan (sym ends) tt
-    possible_by (Err scan_error.StoreFault) ends = by_result IsOfScan tt status.StoreFault tt ends
-    possible_by (Err (scan_error.Damaged damage)) ends = by_result IsOfScan tt (status.Damaged damage) tt ends
-    possible_by (Err scan_error.Unfinished) ends = by_result IsOfScan tt status.Unfinished tt ends
+    possible_by (Err scan_error.StoreFault) ends = by_result result IsOfScan tt status.StoreFault tt ends
+    possible_by (Err (scan_error.Damaged damage)) ends = by_result result IsOfScan tt (status.Damaged damage) tt ends
+    possible_by (Err scan_error.Unfinished) ends = by_result result IsOfScan tt status.Unfinished tt ends
     possible_by (Err scan_error.NoMemory) ends = subst IsOfScan (sym ends) tt
 
     faults_by : (r : Result ⊤ ScanError) → printed ≡ r → EndsRange r result → FaultRose before after result
     faults_by (Ok x) is ends = subst (FaultRose before after) (sym ends) tt
-    faults_by (Err scan_error.Usage) is ends = by_result (FaultRose before after) tt status.Usage tt ends
+    faults_by (Err scan_error.Usage) is ends = by_result result (FaultRose before after) tt status.Usage tt ends
     faults_by (Err scan_error.SinkFault) is ends = subst (FaultRose before after) (sym ends) (sunk is)
-    faults_by (Err scan_error.StoreFault) is ends = by_result (FaultRose before after) tt status.StoreFault (rose is) ends
-    faults_by (Err (scan_error.Damaged damage)) is ends = by_result (FaultRose before after) tt (status.Damaged damage) tt ends
-    faults_by (Err scan_error.Unfinished) is ends = by_result (FaultRose before after) tt status.Unfinished tt ends
+    faults_by (Err scan_error.StoreFault) is ends = by_result result (FaultRose before after) tt status.StoreFault (rose is) ends
+    faults_by (Err (scan_error.Damaged damage)) is ends = by_result result (FaultRose before after) tt (status.Damaged damage) tt ends
+    faults_by (Err scan_error.Unfinished) is ends = by_result result (FaultRose before after) tt status.Unfinished tt ends
     faults_by (Err scan_error.NoMemory) is ends = subst (FaultRose before after) (sym ends) tt
 
     stands_by : (fs : Option Files) → PrintsRange fs first_generation from to w w1 printed → IfSome fs (λ m. ScansOfMap from to m before after result)
@@ -82,6 +77,7 @@ module _ (from to : Option (List ℕ)) (left : Option (List ℕ)) (source : ℕ)
       printed = (printed, w1, range, ended);
       stand = stands_by files range;
       complete = named_by files range;
+      reads = within;
       source = (refl, refl);
       files = same;
     }

@@ -33,6 +33,7 @@ IsOfPrint (status.Damaged damage) = ⊥
 IsOfPrint status.Unfinished = ⊥
 IsOfPrint status.Exists = ⊥
 IsOfPrint status.TooLarge = ⊥
+IsOfPrint (status.Unsound mismatch) = ⊥
 IsOfPrint status.NoMemory = Unit {0}
 
 -- How `gen --print` ends, from the numbers of the script.
@@ -78,6 +79,7 @@ WritesGen asked expected files files' status.Unfinished sink sink' before after 
 WritesGen asked expected files files' status.Exists sink sink' before after = SaysRefusal status.Exists sink sink' before after
 WritesGen asked expected files files' status.TooLarge sink sink' before after =
     SaysRefusal status.TooLarge sink sink' before after
+WritesGen asked expected files files' (status.Unsound mismatch) sink sink' before after = ⊥
 WritesGen asked expected files files' status.NoMemory sink sink' before after = after ≡ before
 
 -- How `gen` without `--print` ends, from the bytes of its script.

@@ -10,6 +10,7 @@ use Rattle.get_tool.specs.declared.error.GetError.{GetError}
 use Rattle.get_tool.specs.declared.error.GetError.TheVariants as get_error
 use Rattle.get_tool.specs.Asked.{NamesKey}
 use Rattle.get_tool.specs.Laws.{ShowsOf}
+use Rattle.get_tool.specs.ShowReads.{ShowsWithin}
 use Rattle.get_tool.specs.Shown.{Shows}
 use Rattle.table_tool.specs.declared.status.Status.{Status}
 use Rattle.table_tool.specs.declared.status.Status.TheVariants as status
@@ -31,6 +32,7 @@ IsOfGet (status.Damaged damage) = Unit {0}
 IsOfGet status.Unfinished = Unit {0}
 IsOfGet status.Exists = ⊥
 IsOfGet status.TooLarge = ⊥
+IsOfGet (status.Unsound mismatch) = Unit {0}
 IsOfGet status.NoMemory = Unit {0}
 
 -- the status with which what is shown ends: a line is printed, and what shows none is refused
@@ -74,5 +76,7 @@ pub record GetEnds (text : List ℕ) (before after : Outside) (result : Status) 
       × IfSome before.files (λ files. Shows files first_generation text shown) × ShowsAs shown before after result
   pub stand : IfSome before.files (λ files. ShowsOfMap text files before after result)
   pub complete : IfSome before.files (λ files. FindsNamed text files before after result)
+  -- over files that stand for a map, it reads the store so often at most
+  pub reads : IfSome before.files (λ files. ShowsWithin files first_generation text before.reads after.reads)
   pub source : KeepsSource before after
   pub files : after.files ≡ before.files

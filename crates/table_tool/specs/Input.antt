@@ -33,7 +33,16 @@ TakesScript (Err (status.BadLine line cause)) expected = expected ≡ Err (scrip
 TakesScript (Err status.TooLarge) expected = expected ≡ Err script_error.TooLarge
 TakesScript (Err status.SourceFault) expected = Unit {0}
 TakesScript (Err status.NoMemory) expected = Unit {0}
-TakesScript (Err result) expected = ⊥
+TakesScript (Err status.Ok) expected = ⊥
+TakesScript (Err status.Usage) expected = ⊥
+TakesScript (Err status.Key) expected = ⊥
+TakesScript (Err (status.Full line)) expected = ⊥
+TakesScript (Err status.SinkFault) expected = ⊥
+TakesScript (Err status.StoreFault) expected = ⊥
+TakesScript (Err (status.Damaged damage)) expected = ⊥
+TakesScript (Err status.Unfinished) expected = ⊥
+TakesScript (Err status.Exists) expected = ⊥
+TakesScript (Err (status.Unsound mismatch)) expected = ⊥
 
 -- the statuses with which no script is taken
 abbrev pub EndsEarly : Status → Type 0
@@ -41,4 +50,13 @@ EndsEarly (status.BadLine line cause) = Unit {0}
 EndsEarly status.SourceFault = Unit {0}
 EndsEarly status.TooLarge = Unit {0}
 EndsEarly status.NoMemory = Unit {0}
-EndsEarly _ = ⊥
+EndsEarly status.Ok = ⊥
+EndsEarly status.Usage = ⊥
+EndsEarly status.Key = ⊥
+EndsEarly (status.Full line) = ⊥
+EndsEarly status.SinkFault = ⊥
+EndsEarly status.StoreFault = ⊥
+EndsEarly (status.Damaged damage) = ⊥
+EndsEarly status.Unfinished = ⊥
+EndsEarly status.Exists = ⊥
+EndsEarly (status.Unsound mismatch) = ⊥

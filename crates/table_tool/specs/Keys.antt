@@ -27,6 +27,7 @@ IsOfKey (status.Damaged damage) = ⊥
 IsOfKey status.Unfinished = ⊥
 IsOfKey status.Exists = ⊥
 IsOfKey status.TooLarge = ⊥
+IsOfKey (status.Unsound mismatch) = ⊥
 IsOfKey status.NoMemory = Unit {0}
 
 -- what is written where this line is shown of the text: it at Ok, a prefix of it where the sink failed, and nothing without memory

@@ -3,13 +3,17 @@ use Rattle.std.specs.Prelude.{◌≡◌, ℕ, List, ◌++◌, Option, Some}
 use Rattle.std.specs.declared.string.String.{String}
 use Rattle.std.specs.declared.alloc.Global.{Global}
 use Rattle.std.specs.FinMap as map
-use Rattle.outside.specs.Files.{Files}
+use Rattle.outside.specs.Files.{Files, bytes_of}
 use Rattle.outside.specs.Told.{WhereTold}
 use Rattle.key_types.specs.Columns.{Columns}
+use Rattle.key_types.specs.Table.{Table}
 use Rattle.script_text.specs.Lines.{lines_of}
 use Rattle.script_text.specs.Meaning.{AreAcceptedLines}
 use Rattle.script_text.specs.Script.{batches_of, puts_of}
 use Rattle.script_text.specs.Spelled.{Line}
+use Rattle.table_files.specs.Names.{data_id, schema_id}
+use Rattle.table_files.specs.SchemaFile.{IsSchemaFile}
+use Rattle.table_files.specs.Standing.{Holds}
 use Rattle.table_reader.specs.Laws.{string_of_key}
 use Rattle.byte_comparable.specs.declared.strings.Side.TheVariants.{Before, After}
 use Rattle.table_reader.specs.declared.seek.BoundString.{BoundString}
@@ -24,8 +28,9 @@ use Rattle.table_tool.specs.declared.status.Status.{Status}
 use Rattle.table_tool.specs.declared.status.Status.TheVariants as status
 use Rattle.table_tool.specs.Outside.{Outside, SinkFails, StoreFails}
 use Rattle.table_tool.specs.Outcome.{IsOrNoMemory}
-use Rattle.row_text.specs.Printed.{IsTableText}
-use Rattle.table_tool.specs.Request.{AskGet, AskLoad, AskScan}
+use Rattle.row_text.specs.Printed.{IsTableText, rows_text}
+use Rattle.table_tool.specs.First.{first_generation}
+use Rattle.table_tool.specs.Request.{AskCheck, AskGet, AskLoad, AskScan}
 use Rattle.table_tool.specs.Rows.{rows_of, table_put}
 use Rattle.table_tool.specs.Run.{RunEnds}
 
@@ -78,3 +83,38 @@ HeadlineOfGets = (words words' : List (String Global)) (asked : LoadAsked) (byte
     (before between between' after : Outside) (result : Status)
     → AskLoad words asked → AskGet words' text → NamesKey asked.columns text key → before.left ≡ Some bytes → between.files ≡ Some files → between'.files ≡ Some files
     → RunEnds words before between status.Ok → RunEnds words' between' after result → PrintsValue asked.columns asked.readers bytes key between' after result
+
+-- ---- over any files that `check` found sound
+
+-- A run that was Ok printed the value that a map has at the key, or `none`.
+pub record PrintsValueOf (columns : Columns) (table : Table) (key : AskedKey) (before after : Outside) (result : Status) : Type 0 where
+  pub printed : result ≡ status.Ok → WhereTold before.written after.written (λ old new. new ≡ old
+      ++ found_line columns key.clustering (map.get table (string_of_key key.partition key.clustering)))
+  -- where neither store nor sink failed, it was Ok, want of memory aside
+  pub complete : ¬ (StoreFails before after) → ¬ (SinkFails before after) → IsOrNoMemory status.Ok result
+
+-- A run that was Ok printed the lines of the entries of a map between two bounds, each there or not, and how many of them are rows.
+pub record PrintsRangeOf (columns : Columns) (table : Table) (lower upper : Option BoundString) (before after : Outside) (result : Status) : Type 0 where
+  pub printed : result ≡ status.Ok → WhereTold before.written after.written (λ old new. new ≡ old
+      ++ rows_text columns (range_of lower upper (map.entries table)))
+  -- where neither store nor sink failed, it was Ok, want of memory aside
+  pub complete : ¬ (StoreFails before after) → ¬ (SinkFails before after) → IsOrNoMemory status.Ok result
+
+-- Data.db lists the entries of a map under the columns of Schema.txt, and over these files each `get` prints the value that this map has at the
+-- key which its text names, and each `scan` the map between the bounds that its texts name.
+pub record AgreeWithData (files : Files) : Type 0 where
+  pub columns : Columns
+  pub table : Table
+  pub schema : IsSchemaFile columns (bytes_of files (schema_id first_generation))
+  pub listed : Holds columns (bytes_of files (data_id first_generation)) (map.entries table)
+  pub gets : (words : List (String Global)) (text : List ℕ) (key : AskedKey) (before after : Outside) (result : Status)
+      → AskGet words text → NamesKey columns text key → before.files ≡ Some files → RunEnds words before after result
+      → PrintsValueOf columns table key before after result
+  pub scans : (words : List (String Global)) (from to : Option (List ℕ)) (lower upper : Option BoundString) (before after : Outside) (result : Status)
+      → AskScan words from to → NamesEnd columns Before from lower → NamesEnd columns After to upper → before.files ≡ Some files
+      → RunEnds words before after result → PrintsRangeOf columns table lower upper before after result
+
+-- Where `check` of a store's files ended Ok, every `get` and every `scan` over them prints what the map that Data.db lists holds.
+abbrev pub HeadlineOfChecks : Type 0
+HeadlineOfChecks = (words : List (String Global)) (files : Files) (before after : Outside)
+    → AskCheck words → before.files ≡ Some files → RunEnds words before after status.Ok → AgreeWithData files

@@ -10,6 +10,7 @@ pub mod Scanning
 pub mod Loading
 pub mod Keys
 pub mod Getting
+pub mod Checking
 pub mod Generating
 pub mod Run
 pub mod Laws

@@ -48,6 +48,7 @@ IsOfList (status.Damaged damage) = ⊥
 IsOfList status.Unfinished = ⊥
 IsOfList status.Exists = ⊥
 IsOfList status.TooLarge = Unit {0}
+IsOfList (status.Unsound mismatch) = ⊥
 IsOfList status.NoMemory = Unit {0}
 
 -- what is expected: a text at Ok and where the sink failed, and for a bad line and a script that is too large that refusal
@@ -64,6 +65,7 @@ IsListed (status.Damaged damage) expected = ⊥
 IsListed status.Unfinished expected = ⊥
 IsListed status.Exists expected = ⊥
 IsListed status.TooLarge expected = expected ≡ Err status.TooLarge
+IsListed (status.Unsound mismatch) expected = ⊥
 IsListed status.NoMemory expected = Unit {0}
 
 -- Ok has written exactly this text, and a fault of the sink a prefix of it; what a refusal writes is said apart
@@ -80,6 +82,7 @@ WritesRows (status.Damaged damage) text before after = Unit {0}
 WritesRows status.Unfinished text before after = Unit {0}
 WritesRows status.Exists text before after = Unit {0}
 WritesRows status.TooLarge text before after = Unit {0}
+WritesRows (status.Unsound mismatch) text before after = Unit {0}
 WritesRows status.NoMemory text before after = Unit {0}
 
 -- How `list` ends, from the columns of its schema and the cells of its shard.

@@ -61,6 +61,7 @@ Refused expected (status.Damaged damage) = Unit {0}
 Refused expected status.Unfinished = Unit {0}
 Refused expected status.Exists = Unit {0}
 Refused expected status.TooLarge = expected ≡ Err status.TooLarge
+Refused expected (status.Unsound mismatch) = Unit {0}
 Refused expected status.NoMemory = Unit {0}
 
 -- this line is the least of its batch for whose put a shard has no room
@@ -106,6 +107,7 @@ KeepsFiles (status.Damaged damage) files files' = files' ≡ files
 KeepsFiles status.Unfinished files files' = files' ≡ files
 KeepsFiles status.Exists files files' = files' ≡ files
 KeepsFiles status.TooLarge files files' = files' ≡ files
+KeepsFiles (status.Unsound mismatch) files files' = files' ≡ files
 KeepsFiles status.NoMemory files files' = Unit {0}
 
 -- each of the four files has a prefix of what it is to have, one that isn't there counting as an empty one, and Schema.txt has
@@ -158,6 +160,7 @@ WritesLoad asked expected files files' (status.Damaged damage) sink sink' before
 WritesLoad asked expected files files' status.Unfinished sink sink' before after = ⊥
 WritesLoad asked expected files files' status.Exists sink sink' before after = Says (fault_line status.Exists) sink sink' before after
 WritesLoad asked expected files files' status.TooLarge sink sink' before after = Says (fault_line status.TooLarge) sink sink' before after
+WritesLoad asked expected files files' (status.Unsound mismatch) sink sink' before after = ⊥
 WritesLoad asked expected files files' status.NoMemory sink sink' before after =
     (text : List ℕ) × ((text ≡ []) ⊎ IsAnswered asked expected text) × (after ≡ before ++ text)
 
@@ -184,6 +187,7 @@ IsOfLoad (status.Damaged damage) = ⊥
 IsOfLoad status.Unfinished = ⊥
 IsOfLoad status.Exists = Unit {0}
 IsOfLoad status.TooLarge = Unit {0}
+IsOfLoad (status.Unsound mismatch) = ⊥
 IsOfLoad status.NoMemory = Unit {0}
 
 -- the statuses of refusals that come before any batch is run
@@ -200,6 +204,7 @@ IsEarly (status.Damaged damage) = ⊥
 IsEarly status.Unfinished = ⊥
 IsEarly status.Exists = Unit {0}
 IsEarly status.TooLarge = Unit {0}
+IsEarly (status.Unsound mismatch) = ⊥
 IsEarly status.NoMemory = ⊥
 
 -- How `load` ends, from what is asked of it.

@@ -17,4 +17,5 @@ status_number (status.Damaged damage) = 7
 status_number status.Unfinished = 8
 status_number status.Exists = 9
 status_number status.TooLarge = 10
+status_number (status.Unsound mismatch) = 11
 status_number status.NoMemory = 12

@@ -33,6 +33,7 @@ IsRefusal (status.Damaged damage) = Unit {0}
 IsRefusal status.Unfinished = Unit {0}
 IsRefusal status.Exists = Unit {0}
 IsRefusal status.TooLarge = Unit {0}
+IsRefusal (status.Unsound mismatch) = Unit {0}
 IsRefusal status.NoMemory = ⊥
 
 -- ---- what was written
@@ -58,6 +59,7 @@ SaysRefusal (status.Damaged damage) sink sink' before after = Says (fault_line (
 SaysRefusal status.Unfinished sink sink' before after = Says (fault_line status.Unfinished) sink sink' before after
 SaysRefusal status.Exists sink sink' before after = Says (fault_line status.Exists) sink sink' before after
 SaysRefusal status.TooLarge sink sink' before after = Says (fault_line status.TooLarge) sink sink' before after
+SaysRefusal (status.Unsound mismatch) sink sink' before after = Says (fault_line (status.Unsound mismatch)) sink sink' before after
 SaysRefusal status.NoMemory sink sink' before after = after ≡ before
 
 -- the same of what stands outside

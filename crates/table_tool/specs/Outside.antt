@@ -55,6 +55,7 @@ module _ (before after : Outside) where
   FaultRose status.Unfinished = Unit {0}
   FaultRose status.Exists = Unit {0}
   FaultRose status.TooLarge = Unit {0}
+  FaultRose (status.Unsound mismatch) = Unit {0}
   FaultRose status.NoMemory = Unit {0}
 
   -- nothing was taken of the source

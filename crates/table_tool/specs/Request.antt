@@ -9,7 +9,7 @@ use Rattle.schema_text.specs.Bounds.{KeepsBounds}
 use Rattle.schema_text.specs.Grammar.{IsSchemaText}
 use Rattle.schema_text.specs.declared.reading.SchemaError.{SchemaError}
 use Rattle.schema_text.specs.declared.reading.SchemaError.TheVariants as schema_error
-use Rattle.command_line.specs.Said.{AreCells, AreRows, Said, Way, decode, encode, gen, get, key, list, load, scan, way_of}
+use Rattle.command_line.specs.Said.{AreCells, AreRows, Said, Way, decode, encode, check, gen, get, key, list, load, scan, way_of}
 use Rattle.command_line.specs.declared.command.KeyArguments.{KeyArguments}
 use Rattle.key_tool.specs.declared.request.KeyWay.{KeyWay}
 use Rattle.key_tool.specs.declared.request.KeyWay.TheVariants.{Encode, Decode}
@@ -51,6 +51,10 @@ AskGet words text = Say words (get text)
 -- they are `scan` with the texts of its two bounds, each there or not
 abbrev pub AskScan : List (String Global) → Option (List ℕ) → Option (List ℕ) → Type 0
 AskScan words from to = Say words (scan from to)
+
+-- they are `check`
+abbrev pub AskCheck : List (String Global) → Type 0
+AskCheck words = Say words check
 
 -- they are `gen --print` with the numbers of a script; cells and readers say nothing then
 abbrev pub AskPrint : List (String Global) → GeneratedScript → Type 0
@@ -121,7 +125,7 @@ AreGen words = (script : GeneratedScript) × (asked : LoadAsked) × AskGen words
 -- they are a command whose texts are accepted
 abbrev pub AskSome : List (String Global) → Type 0
 AskSome words =
-    AreList words ⊎ AreLoad words ⊎ AreGet words ⊎ AreScan words ⊎ AreKey words ⊎ ArePrint words ⊎ AreGen words
+    AreList words ⊎ AreLoad words ⊎ AreGet words ⊎ AreScan words ⊎ AskCheck words ⊎ AreKey words ⊎ ArePrint words ⊎ AreGen words
 
 -- they run batches of a script
 abbrev pub LoadsScript : List (String Global) → Type 0
@@ -129,7 +133,7 @@ LoadsScript words = AreLoad words ⊎ AreGen words
 
 -- they ask the store for anything
 abbrev pub AsksStore : List (String Global) → Type 0
-AsksStore words = LoadsScript words ⊎ AreGet words ⊎ AreScan words
+AsksStore words = LoadsScript words ⊎ AreGet words ⊎ AreScan words ⊎ AskCheck words
 
 -- they say `load`, with any texts for its schema and its bounds
 abbrev pub SayLoad : List (String Global) → Type 0
@@ -189,6 +193,7 @@ ReadsKey arguments (Ok (request.List asked)) = ⊥
 ReadsKey arguments (Ok (request.Load asked)) = ⊥
 ReadsKey arguments (Ok (request.Get text)) = ⊥
 ReadsKey arguments (Ok (request.Scan asked)) = ⊥
+ReadsKey arguments (Ok request.Check) = ⊥
 ReadsKey arguments (Ok (request.Print script)) = ⊥
 ReadsKey arguments (Ok (request.Gen asked)) = ⊥
 ReadsKey arguments (Err error.Usage) = IsNoSchema (string_bytes arguments.schema)
@@ -212,6 +217,7 @@ CanRun (request.List asked) = AreCells asked.cells
 CanRun (request.Load asked) = CanLoad asked
 CanRun (request.Get text) = Unit {0}
 CanRun (request.Scan asked) = Unit {0}
+CanRun request.Check = Unit {0}
 CanRun (request.Key asked) = Unit {0}
 CanRun (request.Print script) = AreRows script.count script.gets
 CanRun (request.Gen asked) = AreRows asked.script.count asked.script.gets × CanLoad asked.load
@@ -229,6 +235,7 @@ Asks words (Ok (request.Load asked)) = AskLoad words (asked_of asked)
 Asks words (Ok (request.Get text)) = AskGet words (string_bytes text)
 Asks words (Ok (request.Scan asked)) =
     AskScan words (option_map string_bytes asked.from) (option_map string_bytes asked.to)
+Asks words (Ok request.Check) = AskCheck words
 Asks words (Ok (request.Key asked)) = AskKey words (kinds_in asked.part asked.schema) asked.way (string_bytes asked.text)
 Asks words (Ok (request.Print script)) = AskPrint words script
 Asks words (Ok (request.Gen asked)) = AskGen words asked.script (asked_of asked.load)

@@ -7,12 +7,13 @@ use Rattle.key_types.specs.Kinds.{Kinds}
 use Rattle.key_tool.specs.declared.request.KeyWay.{KeyWay}
 use Rattle.table_tool.specs.declared.status.Status.{Status}
 use Rattle.table_tool.specs.declared.status.Status.TheVariants as status
-use Rattle.table_tool.specs.Request.{AreRefused, AskGen, AskGet, AskKey, AskList, AskLoad, AskPrint, AskScan, AskSome}
+use Rattle.table_tool.specs.Request.{AreRefused, AskCheck, AskGen, AskGet, AskKey, AskList, AskLoad, AskPrint, AskScan, AskSome}
 use Rattle.table_tool.specs.Outcome.{UsageEnds}
 use Rattle.table_tool.specs.Outside.{FaultRose, Outside}
 use Rattle.table_tool.specs.Listing.{ListEnds}
 use Rattle.table_tool.specs.Loading.{LoadAsked, LoadEnds}
 use Rattle.table_tool.specs.Scanning.{ScanEnds}
+use Rattle.table_tool.specs.Checking.{CheckEnds}
 use Rattle.table_tool.specs.Keys.{KeyEnds}
 use Rattle.table_tool.specs.Getting.{GetEnds}
 use Rattle.table_tool.specs.Generating.{GenEnds, PrintEnds, script_bytes}
@@ -34,6 +35,8 @@ pub record RunEnds (words : List (String Global)) (before after : Outside) (resu
   pub get : (text : List ℕ) → AskGet words text → GetEnds text before after result
   -- `scan` prints the rows and static values of that map
   pub scan : (from to : Option (List ℕ)) → AskScan words from to → ScanEnds from to before after result
+  -- `check` says whether the files stand for a map, and how many partitions and rows they hold
+  pub check : AskCheck words → CheckEnds before after result
   -- `key` shows the string of components, or the components of a string
   pub key : (kinds : Kinds) (way : KeyWay) (text : List ℕ) → AskKey words kinds way text → KeyEnds kinds way text before after result
   -- `gen --print` prints a generated script

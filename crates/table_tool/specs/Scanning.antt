@@ -11,6 +11,7 @@ use Rattle.scan_tool.specs.declared.error.ScanError.{ScanError}
 use Rattle.scan_tool.specs.declared.error.ScanError.TheVariants as scan_error
 use Rattle.scan_tool.specs.Bounds.{NamesEnd}
 use Rattle.scan_tool.specs.Laws.{PrintsOf}
+use Rattle.scan_tool.specs.PrintReads.{PrintsWithin}
 use Rattle.scan_tool.specs.Printing.{PrintsRange}
 use Rattle.table_tool.specs.declared.status.Status.{Status}
 use Rattle.table_tool.specs.declared.status.Status.TheVariants as status
@@ -32,6 +33,7 @@ IsOfScan (status.Damaged damage) = Unit {0}
 IsOfScan status.Unfinished = Unit {0}
 IsOfScan status.Exists = ⊥
 IsOfScan status.TooLarge = ⊥
+IsOfScan (status.Unsound mismatch) = Unit {0}
 IsOfScan status.NoMemory = Unit {0}
 
 -- the status with which a range that was printed so far ends
@@ -92,5 +94,7 @@ pub record ScanEnds (from to : Option (List ℕ)) (before after : Outside) (resu
   pub printed : PrintsAnd (PrintsRange before.files first_generation from to) before after result
   pub stand : IfSome before.files (λ files. ScansOfMap from to files before after result)
   pub complete : IfSome before.files (λ files. ScansNamed from to files before after result)
+  -- over files that stand for a map, it reads the store so often at most
+  pub reads : IfSome before.files (λ files. PrintsWithin files first_generation from to before.reads after.reads)
   pub source : KeepsSource before after
   pub files : after.files ≡ before.files

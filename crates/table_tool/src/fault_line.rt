@@ -1,9 +1,12 @@
 //! The line that a refusal ends with.
 ghost use Rattle.std.specs.Prelude.{◌≡◌, ◌++◌, OnOk, IfOk};
-ghost use Rattle.table_tool.specs.FaultLine.{cause_text, damage_text, fault_line, part_text};
+ghost use Rattle.std.specs.Fmt.{signed_decimal};
+ghost use Rattle.table_tool.specs.FaultLine.{cause_text, clash_text, damage_text, fault_line, part_text, place_text};
 
 use crate::status::Status;
 use bti_nodes::{Cause, Damage};
+use data_walk::{Clash, Mismatch};
+use itoa::Buffer;
 use key_types::{ByteList, NoMemory};
 use outside::Part;
 use row_text::put_number;
@@ -51,15 +54,55 @@ fn damage_name(cause: Cause) -> &'static [u8]
     }
 }
 
+/// Appends a label, and the place of a file that it speaks of.
+fn put_place(out: &mut ByteList, label: &[u8], part: Part, position: u64) -> Result<(), NoMemory>
+    ensures { OnOk result (out.new ≡ out.old ++ (label.now ++ place_text part position)) }
+{
+    out.extend(label)?;
+    out.extend(part_name(part))?;
+    put_number(out, b" at ", position)?;
+    out.extend(b": ")
+}
+
 /// Appends the line of damage.
 fn put_damage(out: &mut ByteList, damage: Damage) -> Result<(), NoMemory>
     ensures { OnOk result (out.new ≡ out.old ++ fault_line (Status.Damaged damage)) }
 {
-    out.extend(b"error: damaged ")?;
-    out.extend(part_name(damage.part))?;
-    put_number(out, b" at ", damage.position)?;
-    out.extend(b": ")?;
+    put_place(out, b"error: damaged ", damage.part, damage.position)?;
     out.extend(damage_name(damage.cause))?;
+    out.push(b'\n')
+}
+
+/// Appends a label and a number behind it, which may be below 0.
+fn put_signed(out: &mut ByteList, label: &[u8], n: i128) -> Result<(), NoMemory>
+    ensures { OnOk result (out.new ≡ out.old ++ (label.now ++ signed_decimal n)) }
+{
+    let mut digits = Buffer::new();
+    out.extend(label)?;
+    out.extend(digits.format(n).as_bytes())
+}
+
+/// Appends how a file differs from what Data.db gives.
+fn put_clash(out: &mut ByteList, clash: Clash) -> Result<(), NoMemory>
+    ensures { OnOk result (out.new ≡ out.old ++ clash_text clash) }
+{
+    match clash {
+        Clash::Order => out.extend(b"order"),
+        Clash::Path => out.extend(b"path"),
+        Clash::Number { found, wanted } => {
+            put_signed(out, b"number ", found)?;
+            put_signed(out, b" not ", wanted)
+        }
+        Clash::Key => out.extend(b"key"),
+    }
+}
+
+/// Appends the line of a clash.
+fn put_mismatch(out: &mut ByteList, mismatch: Mismatch) -> Result<(), NoMemory>
+    ensures { OnOk result (out.new ≡ out.old ++ fault_line (Status.Unsound mismatch)) }
+{
+    put_place(out, b"error: unsound ", mismatch.part, mismatch.position)?;
+    put_clash(out, mismatch.clash)?;
     out.push(b'\n')
 }
 
@@ -78,6 +121,7 @@ pub fn fault_line(alloc: Global, status: Status) -> Result<ByteList, NoMemory>
         Status::Unfinished => out.extend(b"error: unfinished\n")?,
         Status::Exists => out.extend(b"error: exists\n")?,
         Status::TooLarge => out.extend(b"error: too large\n")?,
+        Status::Unsound(mismatch) => put_mismatch(&mut out, mismatch)?,
         Status::BadLine(line, cause) => {
             put_number(&mut out, b"error: line ", u64::from(line))?;
             out.extend(b": ")?;

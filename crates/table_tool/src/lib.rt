@@ -1,6 +1,7 @@
 //! The commands of the table: the top calls, which carry what a user relies on.
 #![tactic(auto)]
 
+mod check;
 mod fault_line;
 mod first;
 mod generate;

@@ -75,6 +75,8 @@ pub enum Request {
     Get(String),
     /// Print the rows of the files between two bounds.
     Scan(ScanArguments),
+    /// Check the files against each other.
+    Check,
     /// Print the string of components, or the components of a string.
     Key(KeyRequest),
     /// Print a generated script.
@@ -220,6 +222,7 @@ pub fn read_request(alloc: Global, words: &[String]) -> Result<Request, WordsErr
         Command::Load(arguments) => load_request(alloc, arguments),
         Command::Get(arguments) => Ok(Request::Get(arguments.key)),
         Command::Scan(arguments) => Ok(Request::Scan(arguments)),
+        Command::Check => Ok(Request::Check),
         Command::Key(arguments) => key_request(alloc, arguments),
         Command::Gen(arguments) => gen_request(alloc, arguments),
     }
@@ -232,8 +235,8 @@ pub fn says_load(alloc: Global, words: &[String]) -> Result<bool, NoMemory>
     match read_words(alloc, words) {
         Ok(Command::Load(_)) => Ok(true),
         Ok(Command::Gen(arguments)) => Ok(!arguments.print),
-        Ok(Command::List(_)) | Ok(Command::Get(_)) | Ok(Command::Scan(_)) | Ok(Command::Key(_)) =>
-            Ok(false),
+        Ok(Command::List(_)) | Ok(Command::Get(_)) | Ok(Command::Scan(_)) => Ok(false),
+        Ok(Command::Check) | Ok(Command::Key(_)) => Ok(false),
         Err(WordsError::Usage) => Ok(false),
         Err(WordsError::NoMemory) => Err(NoMemory),
     }

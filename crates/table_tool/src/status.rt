@@ -3,6 +3,7 @@ ghost use Rattle.std.specs.Prelude.{◌≡◌};
 ghost use Rattle.table_tool.specs.Numbers.{status_number};
 
 use bti_nodes::Damage;
+use data_walk::Mismatch;
 use script_text::LineCause;
 
 /// How a run ended.
@@ -31,6 +32,8 @@ pub enum Status {
     Exists,
     /// The script has over 67,108,864 bytes or 1,000,000 lines.
     TooLarge,
+    /// The files of the table clash at a place.
+    Unsound(Mismatch),
     NoMemory,
 }
 
@@ -52,6 +55,7 @@ impl Status {
             Status::Unfinished => 8,
             Status::Exists => 9,
             Status::TooLarge => 10,
+            Status::Unsound(_) => 11,
             Status::NoMemory => 12,
         }
     }

@@ -4,6 +4,7 @@ ghost use Rattle.table_tool.specs.Outside.{outside_of};
 ghost use Rattle.table_tool.specs.Request.{AreRefused, AsksStore, LoadsScript, SaysLoad};
 ghost use Rattle.table_tool.specs.Run.{RunEnds};
 
+use crate::check::check;
 use crate::generate::{generate, print_script};
 use crate::get::get;
 use crate::key::key;
@@ -42,6 +43,7 @@ pub fn run_query<S: Source, O: Sink, K: Store>(
         Ok(Request::Load(_)) => unreachable!(),
         Ok(Request::Get(text)) => get(alloc, text.as_str(), out, store),
         Ok(Request::Scan(bounds)) => scan(alloc, &bounds, out, store),
+        Ok(Request::Check) => check(alloc, out, store),
         Ok(Request::Key(asked)) => key(alloc, &asked, out),
         Ok(Request::Print(script)) => print_script(alloc, script, out),
         Ok(Request::Gen(_)) => unreachable!(),
@@ -75,6 +77,7 @@ pub fn run_load<R: Threads + Sync, S: Source, O: Sink, K: Store, G: Gate>(
         Ok(Request::List(_)) => unreachable!(),
         Ok(Request::Get(_)) => unreachable!(),
         Ok(Request::Scan(_)) => unreachable!(),
+        Ok(Request::Check) => unreachable!(),
         Ok(Request::Key(_)) => unreachable!(),
         Ok(Request::Print(_)) => unreachable!(),
         Ok(Request::Gen(request)) => generate(rt, alloc, request, out, store, gate),

@@ -65,6 +65,7 @@ stopped (status.Damaged damage) stops sunk = absurd stops
 stopped status.Unfinished stops sunk = absurd stops
 stopped status.Exists stops sunk = inl tt
 stopped status.TooLarge stops sunk = inl tt
+stopped (status.Unsound mismatch) stops sunk = absurd stops
 stopped status.NoMemory stops sunk = inr refl
 
 pub refuse_or_end-requires : goal.refuse_or_end-requires

@@ -1,8 +1,10 @@
 use Rattle.std.proofs.Common.{List, ℕ, Option, Ok, Err, ap, refl, subst, option_map}
+use Rattle.std.specs.Prelude.{IfSome}
 use Rattle.std.specs.String.{string_bytes}
 use Rattle.std.specs.Option.{option_copied}
 use Rattle.scan_tool.specs.declared.error.ScanError.{ScanError}
 use Rattle.scan_tool.specs.declared.error.ScanError.TheVariants as scan_error
+use Rattle.scan_tool.specs.PrintReads.{PrintsWithin}
 use Rattle.scan_tool.specs.Printing.{PrintsRange}
 use Rattle.table_tool.specs.First.{first_generation}
 use Rattle.table_tool.specs.declared.status.Status.TheVariants as status
@@ -20,6 +22,8 @@ returns-in-Ok g c =
     c.in-Ok.ensures.prints))
     (record { ends = refl; behind = told_none (g.O.Sink.written c.print_range.new.out) _ (λ x. refl) })
     c.print_range.ensures.files (λ e. cc) (λ e. cc)
+    (subst (λ (f : Option (List ℕ)). IfSome (g.K.Store.files c.args.store.now) (λ m. PrintsWithin m first_generation f (option_map string_bytes c.args.bounds.now.to) (g.K.Store.reads c.args.store.now) (g.K.Store.reads c.print_range.new.store))) c.bytes_of-from.ensures
+    (subst (λ (t : Option (List ℕ)). IfSome (g.K.Store.files c.args.store.now) (λ m. PrintsWithin m first_generation (option_copied c.bytes_of-from.result) t (g.K.Store.reads c.args.store.now) (g.K.Store.reads c.print_range.new.store))) c.bytes_of-to.ensures c.in-Ok.ensures.reads))
 
 pub returns-in-Err-Usage : goal.returns-in-Err-Usage
 returns-in-Err-Usage g c =
@@ -34,6 +38,8 @@ returns-in-Err-Usage g c =
       behind = told_so (g.O.Sink.written c.print_range.new.out) (g.O.Sink.written c.refuse.new.out) _ _ (says_earlier (g.O.Sink.faults c.args.out.now) (g.O.Sink.faults c.print_range.new.out) (g.O.Sink.faults c.refuse.new.out) e.later c.refuse.result) c.refuse.ensures.told;
     })
     e.files (λ also. cc) (λ also. cc)
+    (subst (λ (f : Option (List ℕ)). IfSome (g.K.Store.files c.args.store.now) (λ m. PrintsWithin m first_generation f (option_map string_bytes c.args.bounds.now.to) (g.K.Store.reads c.args.store.now) (g.K.Store.reads c.print_range.new.store))) c.bytes_of-from.ensures
+    (subst (λ (t : Option (List ℕ)). IfSome (g.K.Store.files c.args.store.now) (λ m. PrintsWithin m first_generation (option_copied c.bytes_of-from.result) t (g.K.Store.reads c.args.store.now) (g.K.Store.reads c.print_range.new.store))) c.bytes_of-to.ensures e.reads))
 
 pub returns-in-Err-SinkFault : goal.returns-in-Err-SinkFault
 returns-in-Err-SinkFault g c =
@@ -45,6 +51,8 @@ returns-in-Err-SinkFault g c =
     (subst (λ (f : ScanError). PrintsRange (g.K.Store.files c.args.store.now) first_generation (option_copied c.bytes_of-from.result) (option_copied c.bytes_of-to.result) (g.O.Sink.written c.args.out.now) (g.O.Sink.written c.print_range.new.out) (Err f)) c.in-Err-SinkFault.field-0-is e.prints)))
     (record { ends = refl; behind = told_none (g.O.Sink.written c.print_range.new.out) _ (λ x. refl) })
     e.files (λ also. cc) (λ also. e.fault (ap Err c.in-Err-SinkFault.field-0-is))
+    (subst (λ (f : Option (List ℕ)). IfSome (g.K.Store.files c.args.store.now) (λ m. PrintsWithin m first_generation f (option_map string_bytes c.args.bounds.now.to) (g.K.Store.reads c.args.store.now) (g.K.Store.reads c.print_range.new.store))) c.bytes_of-from.ensures
+    (subst (λ (t : Option (List ℕ)). IfSome (g.K.Store.files c.args.store.now) (λ m. PrintsWithin m first_generation (option_copied c.bytes_of-from.result) t (g.K.Store.reads c.args.store.now) (g.K.Store.reads c.print_range.new.store))) c.bytes_of-to.ensures e.reads))
 
 pub returns-in-Err-StoreFault : goal.returns-in-Err-StoreFault
 returns-in-Err-StoreFault g c =
@@ -59,6 +67,8 @@ returns-in-Err-StoreFault g c =
       behind = told_so (g.O.Sink.written c.print_range.new.out) (g.O.Sink.written c.refuse-in-Err-StoreFault.new.out) _ _ (says_earlier (g.O.Sink.faults c.args.out.now) (g.O.Sink.faults c.print_range.new.out) (g.O.Sink.faults c.refuse-in-Err-StoreFault.new.out) e.later c.refuse-in-Err-StoreFault.result) c.refuse-in-Err-StoreFault.ensures.told;
     })
     e.files (λ also. e.store_fault (ap Err c.in-Err-StoreFault.field-0-is)) (λ also. cc)
+    (subst (λ (f : Option (List ℕ)). IfSome (g.K.Store.files c.args.store.now) (λ m. PrintsWithin m first_generation f (option_map string_bytes c.args.bounds.now.to) (g.K.Store.reads c.args.store.now) (g.K.Store.reads c.print_range.new.store))) c.bytes_of-from.ensures
+    (subst (λ (t : Option (List ℕ)). IfSome (g.K.Store.files c.args.store.now) (λ m. PrintsWithin m first_generation (option_copied c.bytes_of-from.result) t (g.K.Store.reads c.args.store.now) (g.K.Store.reads c.print_range.new.store))) c.bytes_of-to.ensures e.reads))
 
 pub returns-in-Err-Damaged : goal.returns-in-Err-Damaged
 returns-in-Err-Damaged g c =
@@ -73,6 +83,8 @@ returns-in-Err-Damaged g c =
       behind = told_so (g.O.Sink.written c.print_range.new.out) (g.O.Sink.written c.refuse-in-Err-Damaged.new.out) _ _ (says_earlier (g.O.Sink.faults c.args.out.now) (g.O.Sink.faults c.print_range.new.out) (g.O.Sink.faults c.refuse-in-Err-Damaged.new.out) e.later c.refuse-in-Err-Damaged.result) c.refuse-in-Err-Damaged.ensures.told;
     })
     e.files (λ also. cc) (λ also. cc)
+    (subst (λ (f : Option (List ℕ)). IfSome (g.K.Store.files c.args.store.now) (λ m. PrintsWithin m first_generation f (option_map string_bytes c.args.bounds.now.to) (g.K.Store.reads c.args.store.now) (g.K.Store.reads c.print_range.new.store))) c.bytes_of-from.ensures
+    (subst (λ (t : Option (List ℕ)). IfSome (g.K.Store.files c.args.store.now) (λ m. PrintsWithin m first_generation (option_copied c.bytes_of-from.result) t (g.K.Store.reads c.args.store.now) (g.K.Store.reads c.print_range.new.store))) c.bytes_of-to.ensures e.reads))
 
 pub returns-in-Err-Unfinished : goal.returns-in-Err-Unfinished
 returns-in-Err-Unfinished g c =
@@ -87,6 +99,8 @@ returns-in-Err-Unfinished g c =
       behind = told_so (g.O.Sink.written c.print_range.new.out) (g.O.Sink.written c.refuse-in-Err-Unfinished.new.out) _ _ (says_earlier (g.O.Sink.faults c.args.out.now) (g.O.Sink.faults c.print_range.new.out) (g.O.Sink.faults c.refuse-in-Err-Unfinished.new.out) e.later c.refuse-in-Err-Unfinished.result) c.refuse-in-Err-Unfinished.ensures.told;
     })
     e.files (λ also. cc) (λ also. cc)
+    (subst (λ (f : Option (List ℕ)). IfSome (g.K.Store.files c.args.store.now) (λ m. PrintsWithin m first_generation f (option_map string_bytes c.args.bounds.now.to) (g.K.Store.reads c.args.store.now) (g.K.Store.reads c.print_range.new.store))) c.bytes_of-from.ensures
+    (subst (λ (t : Option (List ℕ)). IfSome (g.K.Store.files c.args.store.now) (λ m. PrintsWithin m first_generation (option_copied c.bytes_of-from.result) t (g.K.Store.reads c.args.store.now) (g.K.Store.reads c.print_range.new.store))) c.bytes_of-to.ensures e.reads))
 
 pub returns-in-Err-NoMemory : goal.returns-in-Err-NoMemory
 returns-in-Err-NoMemory g c =
@@ -98,3 +112,5 @@ returns-in-Err-NoMemory g c =
     (subst (λ (f : ScanError). PrintsRange (g.K.Store.files c.args.store.now) first_generation (option_copied c.bytes_of-from.result) (option_copied c.bytes_of-to.result) (g.O.Sink.written c.args.out.now) (g.O.Sink.written c.print_range.new.out) (Err f)) c.in-Err-NoMemory.field-0-is e.prints)))
     (record { ends = refl; behind = told_none (g.O.Sink.written c.print_range.new.out) _ (λ x. refl) })
     e.files (λ also. cc) (λ also. cc)
+    (subst (λ (f : Option (List ℕ)). IfSome (g.K.Store.files c.args.store.now) (λ m. PrintsWithin m first_generation f (option_map string_bytes c.args.bounds.now.to) (g.K.Store.reads c.args.store.now) (g.K.Store.reads c.print_range.new.store))) c.bytes_of-from.ensures
+    (subst (λ (t : Option (List ℕ)). IfSome (g.K.Store.files c.args.store.now) (λ m. PrintsWithin m first_generation (option_copied c.bytes_of-from.result) t (g.K.Store.reads c.args.store.now) (g.K.Store.reads c.print_range.new.store))) c.bytes_of-to.ensures e.reads))

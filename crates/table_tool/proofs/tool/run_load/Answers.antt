@@ -4,8 +4,8 @@ use Rattle.key_types.specs.Columns.{columns_of}
 use Rattle.key_tool.specs.Shown.{kinds_in}
 use Rattle.command_line.specs.declared.command.WordsError.{WordsError}
 use Rattle.table_tool.specs.declared.request.Request.{Request}
-use Rattle.table_tool.specs.Request.{AreRefused, AskGen, AskGet, AskKey, AskList, AskLoad, AskPrint, AskScan, Asks, asked_of}
-use Rattle.table_tool.proofs.RequestLemmas.{ToGet, ToKey, ToList, ToPrint, ToScan, get_names, get_not_refused, key_names, key_not_refused, list_names, list_not_refused, load_no_other, print_names, print_not_refused, scan_names, scan_not_refused}
+use Rattle.table_tool.specs.Request.{AreRefused, AskCheck, AskGen, AskGet, AskKey, AskList, AskLoad, AskPrint, AskScan, Asks, asked_of}
+use Rattle.table_tool.proofs.RequestLemmas.{ToCheck, ToGet, ToKey, ToList, ToPrint, ToScan, check_names, check_not_refused, get_names, get_not_refused, key_names, key_not_refused, list_names, list_not_refused, load_no_other, print_names, print_not_refused, scan_names, scan_not_refused}
 use Rattle.table_tool.proofs.RunLemmas.{gen_run, load_run, memory_run, usage_run}
 use Rattle.table_tool.proofs.tool.run_load.Goals as goal
 
@@ -26,6 +26,11 @@ unreachable-requires-in-Ok-Scan g c =
     let asked = c.in-Ok-Scan.field-0-0 in
     let ask : AskScan c.args.words.now (option_map string_bytes asked.from) (option_map string_bytes asked.to) = subst (λ (r : Request). Asks c.args.words.now (Ok r)) c.in-Ok-Scan.field-0-is c.in-Ok-Scan.ensures.asks in
     load_no_other c.args.words.now ToScan (λ e. cc) (λ e. cc) (scan_not_refused c.args.words.now _ _ ask) c.requires (scan_names c.args.words.now _ _ ask)
+
+pub unreachable-requires-in-Ok-Check : goal.unreachable-requires-in-Ok-Check
+unreachable-requires-in-Ok-Check g c =
+    let ask : AskCheck c.args.words.now = subst (λ (r : Request). Asks c.args.words.now (Ok r)) c.in-Ok-Check.field-0-is c.in-Ok-Check.ensures.asks in
+    load_no_other c.args.words.now ToCheck (λ e. cc) (λ e. cc) (check_not_refused c.args.words.now ask) c.requires (check_names c.args.words.now ask)
 
 pub unreachable-requires-in-Ok-Key : goal.unreachable-requires-in-Ok-Key
 unreachable-requires-in-Ok-Key g c =

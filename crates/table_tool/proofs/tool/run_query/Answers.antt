@@ -6,8 +6,8 @@ use Rattle.command_line.specs.declared.command.WordsError.{WordsError}
 use Rattle.table_tool.specs.declared.request.Request.{Request}
 use Rattle.table_tool.specs.Getting.{GetEnds}
 use Rattle.table_tool.specs.Outside.{outside_of}
-use Rattle.table_tool.specs.Request.{AreRefused, AskGen, AskGet, AskKey, AskList, AskLoad, AskPrint, AskScan, Asks, asked_of}
-use Rattle.table_tool.proofs.RunLemmas.{get_run, key_run, list_run, memory_run, print_run, scan_run, usage_run}
+use Rattle.table_tool.specs.Request.{AreRefused, AskCheck, AskGen, AskGet, AskKey, AskList, AskLoad, AskPrint, AskScan, Asks, asked_of}
+use Rattle.table_tool.proofs.RunLemmas.{check_run, get_run, key_run, list_run, memory_run, print_run, scan_run, usage_run}
 use Rattle.table_tool.proofs.tool.run_query.Goals as goal
 
 pub unreachable-requires : goal.unreachable-requires
@@ -52,7 +52,17 @@ pub returns-in-Ok-Scan-clause-untouched : goal.returns-in-Ok-Scan-clause-untouch
 returns-in-Ok-Scan-clause-untouched g c none =
     let asked = c.in-Ok-Scan.bounds in
     let ask : AskScan c.args.words.now (option_map string_bytes asked.from) (option_map string_bytes asked.to) = subst (λ (r : Request). Asks c.args.words.now (Ok r)) c.in-Ok-Scan.field-0-is c.in-Ok-Scan.ensures.asks in
-    absurd (none (inr (inr (_, _, ask))))
+    absurd (none (inr (inr (inl (_, _, ask)))))
+
+pub returns-in-Ok-Check-clause-ends : goal.returns-in-Ok-Check-clause-ends
+returns-in-Ok-Check-clause-ends g c =
+    let ask : AskCheck c.args.words.now = subst (λ (r : Request). Asks c.args.words.now (Ok r)) c.in-Ok-Check.field-0-is c.in-Ok-Check.ensures.asks in
+    check_run c.args.words.now _ _ c.check.result ask (c.check.ensures _ _)
+
+pub returns-in-Ok-Check-clause-untouched : goal.returns-in-Ok-Check-clause-untouched
+returns-in-Ok-Check-clause-untouched g c none =
+    let ask : AskCheck c.args.words.now = subst (λ (r : Request). Asks c.args.words.now (Ok r)) c.in-Ok-Check.field-0-is c.in-Ok-Check.ensures.asks in
+    absurd (none (inr (inr (inr ask))))
 
 pub returns-in-Ok-Key-clause-ends : goal.returns-in-Ok-Key-clause-ends
 returns-in-Ok-Key-clause-ends g c =
