@@ -15,7 +15,7 @@ import subprocess
 import sys
 
 HERE = os.path.dirname(os.path.abspath(__file__))
-NAMES = ["list", "load", "get", "stores", "nodes", "trie", "shard"]
+NAMES = ["list", "load", "get", "gets", "check", "stores", "nodes", "trie", "shard"]
 # What a line says of the proved program and a peer.
 PARTS = re.compile(r"proved to ([\w ,]+): ([\d.]+) of the time  ([\d.]+) of the memory(?:  ([\d.]+) of the instructions)?(?:  ([\d.]+) of the wall time)?$")
 PROCESSOR = re.compile(r"proved to ([\w ,]+): processor ([\d.]+) \(median [\d.]+\), wall ([\d.]+) ")

@@ -7,8 +7,9 @@ PROGRAM is the built program, crates/sigvhal/out/sigvhal. The tables are `forty-
 small partitions with static values.
 
 Each byte is changed by three values in turn: its lowest bit, its highest bit, and all its bits. Over the files that this gives, `scan`, and a `get` of each key and of two that are absent have to print,
-and end with, what `scripts/plain_reader.py` says, down to the place and the cause of damage. To spare processes a byte inside of a row's value is followed by `scan`, the `get` of that row and
-one of an absent key alone; with --all by each `get`. --every N takes each N-th byte of a file only, --part one file, as `Rows`, --table one table.
+and end with, what `scripts/plain_reader.py` says, down to the place and the cause of damage, and `check` what `scripts/plain_checker.py` says. Where that is that they are sound, each `get` has to print
+what Data.db lists at its key, whatever the indexes are. To spare processes a byte inside of a row's value is followed by `scan`, `check`, the `get` of that row and one of an absent key alone; with --all
+by each `get`. --every N takes each N-th byte of a file only, --part one file, as `Rows`, --table one table.
 
 Prints a line for each answer that differs and how many answers were compared; ends with 1 where one differs.
 """
@@ -20,6 +21,7 @@ import subprocess
 import sys
 import tempfile
 
+from plain_checker import check, listed
 from plain_reader import Files, components
 
 CHANGES = (0x01, 0x80, 0xFF)
@@ -105,8 +107,10 @@ class Worker:
             file.seek(at)
             file.write(bytes([byte]))
         count, wrong = 0, []
-        calls = [(["scan"], changed.scan)]
-        calls += [(["get", key.text], lambda key=key: changed.get(key.partition, key.row)) for key in self.asked(part, at, whole)]
+        line, status = check(changed)
+        get = (lambda key: listed(changed, key.partition, key.row)) if status == 0 else (lambda key: changed.get(key.partition, key.row))
+        calls = [(["scan"], changed.scan), (["check"], lambda: (line, status))]
+        calls += [(["get", key.text], lambda key=key: get(key)) for key in self.asked(part, at, whole)]
         for words, reader in calls:
             found, wanted = self.printed(words), reader()
             count += 1

@@ -78,7 +78,7 @@ def check(program, name, folders):
     table, count, wrong = None, 0, []
     for block in blocks(os.path.join(TOP, name)):
         first = words_of(block[0][1])[0][0]
-        folder = table if first in ("get", "scan") and table else fresh(folders)
+        folder = table if first in ("get", "scan", "check") and table else fresh(folders)
         for number, command, expected in block:
             words, source = words_of(command)
             if words[0] == "load" and table is None:

@@ -5,6 +5,7 @@ use crate::peer::Ending;
 use crate::store_fault;
 use std::fs::File;
 use std::os::unix::fs::FileExt;
+use std::rc::Rc;
 
 /// Reads up to a page from a place of a file on; less where the file ends.
 fn read_at(file: &File, mut at: u64, bytes: &mut [u8]) -> Result<usize, Ending> {
@@ -21,7 +22,10 @@ fn read_at(file: &File, mut at: u64, bytes: &mut [u8]) -> Result<usize, Ending> 
     Ok(count)
 }
 
-/// A file whose pages are kept once they were read.
+/// So many pages are kept, the last used ones.
+const KEPT: usize = 64;
+
+/// A file of which the last used pages are kept, the last one first.
 pub struct Pages {
     file: File,
     length: u64,
@@ -42,18 +46,18 @@ impl Pages {
     /// The page of a place, and where in it the place is.
     pub fn page(&mut self, at: u64) -> Result<(&[u8], usize), Ending> {
         let start = at / PAGE * PAGE;
-        let place = match self.kept.iter().position(|page| page.0 == start) {
-            Some(place) => place,
+        match self.kept.iter().position(|page| page.0 == start) {
+            Some(place) => self.kept[..=place].rotate_right(1),
             None => {
                 let count = self.length.saturating_sub(start).min(PAGE) as usize;
                 let mut bytes = vec![0; count];
                 let count = read_at(&self.file, start, &mut bytes)?;
                 bytes.truncate(count);
-                self.kept.push((start, bytes));
-                self.kept.len() - 1
+                self.kept.truncate(KEPT - 1);
+                self.kept.insert(0, (start, bytes));
             }
-        };
-        Ok((&self.kept[place].1, (at - start) as usize))
+        }
+        Ok((&self.kept[0].1, (at - start) as usize))
     }
 
     /// Up to so many bytes from a place on; less where the file ends.
@@ -73,7 +77,7 @@ impl Pages {
 
 /// The bytes of a file from a place on.
 pub struct Cursor {
-    file: File,
+    file: Rc<File>,
     bytes: Vec<u8>,
     used: usize,
     at: u64,
@@ -81,7 +85,7 @@ pub struct Cursor {
 }
 
 impl Cursor {
-    pub fn new(file: File, at: u64) -> Cursor {
+    pub fn new(file: Rc<File>, at: u64) -> Cursor {
         Cursor { file, bytes: Vec::new(), used: 0, at, whole: false }
     }
 

@@ -57,6 +57,21 @@ fn get(text: &str) -> Result<String, Ending> {
     Ok(value.zip(kind).map_or("none\n".to_string(), |(value, kind)| value_line(kind, &value)))
 }
 
+/// The values of the keys of a file of lines, one behind the other: how many there are, and how many bytes they have.
+fn get_each(keys: &str) -> Result<String, Ending> {
+    let schema = open_schema()?;
+    let mut table = Table::open(&schema)?;
+    let (mut found, mut bytes) = (0, 0);
+    for line in std::fs::read_to_string(keys).map_err(store_fault)?.lines() {
+        let (partition, row) = read_key(&schema, line.as_bytes()).ok_or_else(Ending::usage)?;
+        if let Some(value) = table.value(&partition, row.as_deref())? {
+            found += 1;
+            bytes += value.len();
+        }
+    }
+    Ok(format!("found {found} bytes {bytes}\n"))
+}
+
 fn print(text: &mut Vec<u8>) -> Result<(), Ending> {
     io::stdout().write_all(text).map_err(|_| Ending(5, String::new()))?;
     text.clear();
@@ -110,6 +125,7 @@ fn main() -> ExitCode {
     let mut text = Vec::new();
     let ended = match words.iter().map(String::as_str).collect::<Vec<_>>()[..] {
         ["get", key] => get(key),
+        ["gets"] => get_each("keys.txt"),
         ["scan"] => scan(None, None, &mut text),
         ["scan", "--from", from] => scan(Some(from), None, &mut text),
         ["scan", "--to", to] => scan(None, Some(to), &mut text),

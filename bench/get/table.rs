@@ -8,18 +8,22 @@ use crate::peer::{Ending, LONGEST_KEY, Schema};
 use crate::{damaged, store_fault};
 use std::cmp::Ordering;
 use std::fs::File;
+use std::rc::Rc;
 
 pub struct Table<'a> {
     schema: &'a Schema,
     partitions: Index,
     footer: Footer,
+    data: Rc<File>,
+    /// Rows.db, once an entry of it was asked for.
+    rows: Option<Index>,
 }
 
 /// Where a partition stands: its string as far as it is known without its head, its head's position, and the root of its blocks' trie, where it has one.
 struct Place {
     string: Option<Vec<u8>>,
     at: u64,
-    root: Option<(Index, u64)>,
+    root: Option<u64>,
 }
 
 /// A row, or a static value without a row's string.
@@ -32,24 +36,35 @@ impl<'a> Table<'a> {
     pub fn open(schema: &'a Schema) -> Result<Table<'a>, Ending> {
         let mut partitions = Index::open("1-Partitions.db", "Partitions")?;
         let footer = partitions.footer()?;
-        Ok(Table { schema, partitions, footer })
+        let data = Rc::new(File::open("1-Data.db").map_err(store_fault)?);
+        Ok(Table { schema, partitions, footer, data, rows: None })
     }
 
-    fn place(number: i64) -> Result<Place, Ending> {
+    fn rows(&mut self) -> Result<&mut Index, Ending> {
+        if self.rows.is_none() {
+            self.rows = Some(Index::open("1-Rows.db", "Rows")?);
+        }
+        self.rows.as_mut().ok_or_else(Ending::usage)
+    }
+
+    fn place(&mut self, number: i64) -> Result<Place, Ending> {
         if number < 0 {
             return Ok(Place { string: None, at: !number as u64, root: None });
         }
-        let mut rows = Index::open("1-Rows.db", "Rows")?;
-        let entry = rows.entry(number as u64)?;
-        Ok(Place { string: Some(entry.string), at: entry.data_at, root: Some((rows, entry.root)) })
+        let entry = self.rows()?.entry(number as u64)?;
+        Ok(Place { string: Some(entry.string), at: entry.data_at, root: Some(entry.root) })
     }
 
     /// The offset of the block in which rows from a string on begin; 0 for the first.
-    fn block(place: &mut Place, string: &[u8]) -> Result<u64, Ending> {
-        match &mut place.root {
-            Some((rows, root)) => Ok(rows.floor(*root, string)?.unwrap_or(0)),
+    fn block(&mut self, place: &Place, string: &[u8]) -> Result<u64, Ending> {
+        match place.root {
+            Some(root) => Ok(self.rows()?.floor(root, string)?.unwrap_or(0)),
             None => Ok(0),
         }
+    }
+
+    fn walk_from(&self, partition: &[u8], at: u64, offset: u64) -> Walk<'a> {
+        Walk::new(self.schema, self.data.clone(), partition, at, offset)
     }
 
     /// The value of a row, or the static value of a partition.
@@ -58,39 +73,40 @@ impl<'a> Table<'a> {
             return Ok(None);
         }
         let Some(number) = self.partitions.find(self.footer.root, partition)? else { return Ok(None) };
-        let mut place = Table::place(number)?;
+        let place = self.place(number)?;
         if place.string.as_ref().is_some_and(|string| string != partition) {
             return Ok(None);
         }
-        let offset = row.map_or(Ok(0), |row| Table::block(&mut place, row))?;
-        let mut walk = Walk::open(self.schema, partition, place.at, offset)?;
+        let offset = row.map_or(Ok(0), |row| self.block(&place, row))?;
+        let mut walk = self.walk_from(partition, place.at, offset);
         walk.find(partition, row)
     }
 
     /// A walk that begins at or before the first row or static value of a range, and not before its block; `None` where no partition is there.
     pub fn walk(&mut self, from: Option<&Bound>) -> Result<Option<Walk<'a>>, Ending> {
-        let Some(from) = from else { return Walk::open(self.schema, &[], 0, 0).map(Some) };
+        let Some(from) = from else { return Ok(Some(self.walk_from(&[], 0, 0))) };
         if self.footer.partitions == 0 {
             return Ok(None);
         }
         let reached = self.partitions.reach(self.footer.root, &from.partition)?;
         if let Some(number) = reached.payload {
-            let mut place = Table::place(number)?;
+            let mut place = self.place(number)?;
             if place.string.is_none() {
-                place.string = Some(Walk::open(self.schema, &[], place.at, 0)?.head()?);
+                place.string = Some(self.walk_from(&[], place.at, 0).head()?);
             }
             match place.string.as_deref().cmp(&Some(&from.partition)) {
                 Ordering::Less => {}
-                Ordering::Greater => return Walk::open(self.schema, &[], place.at, 0).map(Some),
+                Ordering::Greater => return Ok(Some(self.walk_from(&[], place.at, 0))),
                 Ordering::Equal => {
-                    let offset = from.first.as_ref().map_or(Ok(0), |first| Table::block(&mut place, first))?;
-                    return Walk::open(self.schema, &from.partition, place.at, offset).map(Some);
+                    let offset = from.first.as_ref().map_or(Ok(0), |first| self.block(&place, first))?;
+                    return Ok(Some(self.walk_from(&from.partition, place.at, offset)));
                 }
             }
         }
         let Some(behind) = reached.behind else { return Ok(None) };
-        let place = Table::place(self.partitions.least(behind)?)?;
-        Walk::open(self.schema, &[], place.at, 0).map(Some)
+        let number = self.partitions.least(behind)?;
+        let place = self.place(number)?;
+        Ok(Some(self.walk_from(&[], place.at, 0)))
     }
 }
 
@@ -123,11 +139,10 @@ fn is_value(kind: ValueType, value: &[u8]) -> bool {
 
 impl<'a> Walk<'a> {
     /// A walk from the head of a partition on, or from a block of it behind the first.
-    fn open(schema: &'a Schema, partition: &[u8], at: u64, offset: u64) -> Result<Walk<'a>, Ending> {
-        let file = File::open("1-Data.db").map_err(store_fault)?;
+    fn new(schema: &'a Schema, file: Rc<File>, partition: &[u8], at: u64, offset: u64) -> Walk<'a> {
         let next = if offset > 0 { Next::Row } else { Next::Head };
         let cursor = Cursor::new(file, at + offset);
-        Ok(Walk { schema, cursor, next, partition: partition.to_vec(), row: None, value: (0, 0), length: 0 })
+        Walk { schema, cursor, next, partition: partition.to_vec(), row: None, value: (0, 0), length: 0 }
     }
 
     pub fn at(&self) -> u64 {

@@ -9,7 +9,7 @@ pub mod schema;
 pub mod script;
 mod value;
 
-pub use row_text::{put_key, put_value_literal};
+pub use row_text::{is_key, put_key, put_value_literal};
 pub use schema::Schema;
 pub use script::{Rows, read_all, read_script, rows_put};
 

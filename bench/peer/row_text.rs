@@ -20,6 +20,13 @@ pub fn put_key(kinds: &[Type], string: &[u8], out: &mut Vec<u8>) -> Option<()> {
     encoded.is_at_end().then_some(())
 }
 
+/// Whether this is the string of components of these types.
+pub fn is_key(kinds: &[Type], string: &[u8]) -> bool {
+    let mut encoded = Encoded::new(string);
+    let each = kinds.iter().all(|kind| encoded.sign(SEPARATOR).and_then(|()| encoded.value(kind)).is_some());
+    each && encoded.sign(TERMINATOR).is_some() && encoded.is_at_end()
+}
+
 /// Appends ` = `, the literal of a value, and the end of the line.
 pub fn put_value_literal(kind: ValueType, value: &[u8], out: &mut Vec<u8>) {
     out.extend_from_slice(b" = ");
