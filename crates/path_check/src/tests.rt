@@ -50,8 +50,20 @@ fn one_path_and_the_end(rt: HostRuntime) -> Result<(), Fail> {
     assert_eq!(rt; seen(found), Ok((1, 0, 20)));
     let end = check_end(&mut cache, &mut store, &mut paths, part);
     assert_eq!(rt; end, Ok(()));
-    let found = next_path(&mut cache, &mut store, &mut paths, part, 2);
-    assert_eq!(rt; seen(found), Err(clash(2)));
+    Ok(())
+}
+
+#[test]
+fn no_second_path(rt: HostRuntime) -> Result<(), Fail> {
+    let alloc = rt.alloc();
+    let mut store = store_of(alloc)?;
+    let mut cache = PageCache::new(alloc)?;
+    let mut paths = Walk::new(alloc, PARTITIONS, 2);
+    let part = Part::Partitions;
+    let first = next_path(&mut cache, &mut store, &mut paths, part, 2);
+    assert_eq!(rt; seen(first), Ok((1, 0, 20)));
+    let second = next_path(&mut cache, &mut store, &mut paths, part, 2);
+    assert_eq!(rt; seen(second), Err(clash(2)));
     Ok(())
 }
 
